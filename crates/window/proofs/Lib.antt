@@ -1,0 +1,5 @@
+-- The laws of sequence numbers, bits and words of marks, each for every width.
+pub mod Numbers
+pub mod Bits
+pub mod Words
+pub mod Window

@@ -1,0 +1,3 @@
+-- Document 01, "Sequence numbers".
+pub mod Window
+pub mod Laws

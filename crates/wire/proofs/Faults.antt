@@ -1,0 +1,101 @@
+-- The last of a list of refusals, and how large a refusal's numbers are. Assumes nothing.
+use mathlib.Core.Path.{_≡_, refl, ap, _∙_}
+use mathlib.Core.Bool.{Bool, true, false, cond, not, _||_, _&&_, or-true}
+use mathlib.Core.List.{List, [], _∷_}
+use mathlib.Core.Option.{Option, none, some}
+use Prim.Native.Nat.{ℕ, _/_, _%_, _≤_, _<_}
+use native.Mathlib.Omega.{arith}
+use borrow.Author.Tests.{ltb-true, ltb-false, leb-true, le-leb}
+use lib.Dec.{ltb, leb, eqb}
+use lib.ListN.{length, length-drop}
+use Rattle.lists.specs.Lists.{maybe, all}
+use Rattle.wire.specs.declared.Fault.{Fault}
+use Rattle.wire.specs.Layout.{headerSize, entrySize, packetMost, maskMost, versionAt}
+use Rattle.wire.specs.Packet.{octet, hna}
+use Rattle.wire.specs.Check.{given, firstOf, faultOf, entries, mask, maskFault, firstBadMask, hnaFaults, hnaFault, packetFaults, packetFault}
+use Rattle.wire.proofs.Search.{below}
+
+-- the last of a list stands for itself
+pub last : (x : Option Fault) → faultOf x ≡ faultOf (maybe {X = Option Fault} x none some)
+last none = refl
+last (some f) = refl
+
+-- ---- a number of at most 8, and a place of at most m
+
+unfoldable isSmall : ℕ → Option Fault → Bool
+isSmall m x = maybe x true (λ f. leb (f .number) 8 && leb (f .place) m)
+
+and-first : (a b : Bool) → (a && b) ≡ true → a ≡ true
+and-first true b h = refl
+and-first false b h = h
+
+and-second : (a b : Bool) → (a && b) ≡ true → b ≡ true
+and-second true b h = h
+and-second false b h = let z : true ≡ false = cc in cc
+
+-- where all of a list are small, the first of them is
+first-small : (m : ℕ) (fs : List (Option Fault)) → all (isSmall m) fs ≡ true → isSmall m (firstOf fs) ≡ true
+unfolding isSmall
+first-small m [] h = refl
+first-small m (none ∷ fs) h = first-small m fs h
+first-small m (some f ∷ fs) h = and-first (leb (f .number) 8 && leb (f .place) m) (all (isSmall m) fs) h
+
+given-small : (m : ℕ) (t : Bool) (n : ℕ) → n ≤ 8 → isSmall m (given t n) ≡ true
+unfolding isSmall
+given-small m true n h = rw (le-leb n 8 h, le-leb 0 m (omega arith))
+given-small m false n h = refl
+
+mask-small : (e : List ℕ) → isSmall (length e) (maskFault e) ≡ true
+unfolding isSmall firstBadMask
+mask-small e = go (firstBadMask e) (below (λ j. ltb maskMost (mask e j)) (entries e))
+  where
+    go : (x : Option ℕ) → ((k : ℕ) → x ≡ some k → k < length e / entrySize) → isSmall (length e) (maybe x none (λ k. some (record { number = 8; place = k }))) ≡ true
+    go none h = refl
+    go (some k) h = le-leb k (length e) (omega (arith, h k refl))
+
+wider : (m n : ℕ) (x : Option Fault) → m ≤ n → isSmall m x ≡ true → isSmall n x ≡ true
+unfolding isSmall
+wider m n none l h = refl
+wider m n (some f) l h =
+    rw (and-first (leb (f .number) 8) (leb (f .place) m) h, le-leb (f .place) n (omega (arith, leb-true (f .place) m (and-second (leb (f .number) 8) (leb (f .place) m) h))))
+
+hna-small : (e : List ℕ) → isSmall (length e) (hnaFault e) ≡ true
+unfolding hnaFault
+hna-small e = first-small (length e) (hnaFaults e) (rw (given-small (length e) (not (eqb (length e % entrySize) 0)) 7 (omega arith), mask-small e))
+
+too-long : (v : ℕ) (p : List ℕ) → ltb packetMost (length p) ≡ true → isSmall packetMost (packetFault v p) ≡ true
+unfolding packetFault isSmall
+too-long v p e = rw (e, or-true)
+
+small-packet : (v : ℕ) (p : List ℕ) → isSmall packetMost (packetFault v p) ≡ true
+unfolding packetFault
+small-packet v p = go (ltb packetMost (length p)) refl
+  where
+    low : Bool
+    low = ltb (length p) headerSize
+
+    go : (t : Bool) → ltb packetMost (length p) ≡ t → isSmall packetMost (packetFault v p) ≡ true
+    go true e = too-long v p e
+    go false e =
+        let l : length (hna p) ≤ packetMost = omega (arith, length-drop headerSize p, ltb-false packetMost (length p) e) in
+        first-small packetMost (packetFaults v p) (rw (
+          given-small packetMost (low || ltb packetMost (length p)) 5 (omega arith),
+          given-small packetMost (not (eqb (octet p versionAt) v)) 6 (omega arith),
+          wider (length (hna p)) packetMost (hnaFault (hna p)) l (hna-small (hna p)),
+        ))
+
+pub record Small (m : ℕ) (f : Fault) : Type 0 where
+  pub number : f .number ≤ 8
+  pub place : f .place ≤ m
+
+pub packet-small : (v : ℕ) (p : List ℕ) → Small packetMost (faultOf (packetFault v p))
+unfolding isSmall
+packet-small v p = go (packetFault v p) (small-packet v p)
+  where
+    go : (x : Option Fault) → isSmall packetMost x ≡ true → Small packetMost (faultOf x)
+    go none h = record { number = omega arith; place = omega arith }
+    go (some f) h =
+        record {
+          number = leb-true (f .number) 8 (and-first (leb (f .number) 8) (leb (f .place) packetMost) h);
+          place = leb-true (f .place) packetMost (and-second (leb (f .number) 8) (leb (f .place) packetMost) h);
+        }

@@ -1,0 +1,5 @@
+-- Laws that the proofs of the functions and the crates above cite.
+pub mod Search
+pub mod Faults
+pub mod Lent
+pub mod Laws

@@ -1,0 +1,86 @@
+-- Document 01, "Numbers for what is turned away": refusals 5, 6, 7 and 8, which rest on the octets of a packet and a version.
+use Prim.Native.Nat.{ℕ, zero, suc, _+_, _*_, _/_, _%_}
+use mathlib.Core.Bool.{Bool, cond, _||_, not}
+use mathlib.Core.Option.{Option, none, some}
+use mathlib.Core.List.{List, [], _∷_}
+use lib.Dec.{ltb, eqb}
+use lib.ListN.{length}
+use Rattle.lists.specs.Lists.{maybe}
+use Rattle.wire.specs.declared.Fault.{Fault}
+use Rattle.wire.specs.Layout.{headerSize, entrySize, packetMost, maskMost, versionAt, maskAt}
+use Rattle.wire.specs.Packet.{octet, hna}
+
+-- ---- refusals in order. A refusal has its number, and the place that 8 carries, else 0
+
+abbrev pub numbered : ℕ → Fault
+numbered n = record { number = n; place = 0 }
+
+-- a number is given where its fact holds
+abbrev pub given : Bool → ℕ → Option Fault
+given t n = cond t (some (numbered n)) none
+
+-- the first of a list in order
+abbrev pub firstOf : List (Option Fault) → Option Fault
+firstOf [] = none
+firstOf (f ∷ fs) = maybe f (firstOf fs) some
+
+-- as numbers: both 0 where there is no refusal
+abbrev pub faultOf : Option Fault → Fault
+faultOf x = maybe x (numbered 0) (λ f. f)
+
+-- ---- the facts
+
+-- 5: below 12 or above 1,472 octets; n is how many the packet has
+abbrev pub sizeFault : ℕ → Option Fault
+sizeFault n = given (ltb n headerSize || ltb packetMost n) 5
+
+-- 6: the version differs
+abbrev pub versionFault : ℕ → List ℕ → Option Fault
+versionFault v p = given (not (eqb (octet p versionAt) v)) 6
+
+-- 7: the HNA octets e are not a multiple of 5
+abbrev pub entriesFault : List ℕ → Option Fault
+entriesFault e = given (not (eqb (length e % entrySize) 0)) 7
+
+-- how many HNA entries the octets e have, and the mask of the one at place k, from 0
+abbrev pub entries : List ℕ → ℕ
+entries e = length e / entrySize
+
+abbrev pub mask : List ℕ → ℕ → ℕ
+mask e k = octet e (entrySize * k + maskAt)
+
+-- the first place below n at which a test is true
+unfoldable pub firstWhere : ℕ → (ℕ → Bool) → Option ℕ
+firstWhere zero f = none
+firstWhere (suc n) f = maybe (firstWhere n f) (cond (f n) (some n) none) some
+
+-- 8: a mask above 32; with the place of the first entry with such a mask
+unfoldable pub firstBadMask : List ℕ → Option ℕ
+firstBadMask e = firstWhere (entries e) (λ k. ltb maskMost (mask e k))
+
+abbrev pub maskFault : List ℕ → Option Fault
+maskFault e = maybe (firstBadMask e) none (λ k. some (record { number = 8; place = k }))
+
+-- ---- what is asked of a packet
+
+-- 7, 8: of HNA octets, received or to be written
+abbrev pub hnaFaults : List ℕ → List (Option Fault)
+hnaFaults e = entriesFault e ∷ maskFault e ∷ []
+
+unfoldable pub hnaFault : List ℕ → Option Fault
+hnaFault e = firstOf (hnaFaults e)
+
+-- 5, 6, 7, 8: of a received packet
+abbrev pub packetFaults : (version : ℕ) → List ℕ → List (Option Fault)
+packetFaults v p = sizeFault (length p) ∷ versionFault v p ∷ hnaFault (hna p) ∷ []
+
+unfoldable pub packetFault : (version : ℕ) → List ℕ → Option Fault
+packetFault v p = firstOf (packetFaults v p)
+
+-- 5, 7, 8: of the packet that would have the HNA octets e
+unfoldable pub writtenFault : List ℕ → Option Fault
+writtenFault e = firstOf (sizeFault (headerSize + length e) ∷ hnaFault e ∷ [])
+
+-- the packet check's answer on plain numbers: 0 for a packet without fault, else the number and 256 times the place
+unfoldable pub packetCheck : (version : ℕ) → List ℕ → ℕ
+packetCheck v p = maybe (packetFault v p) 0 (λ f. f .number + 256 * f .place)

@@ -1,0 +1,7 @@
+-- Document 01, "Octets on the air", and what it says elsewhere of written octets.
+pub mod Layout
+pub mod Packet
+pub mod Check
+pub mod Place
+pub mod PassOn
+pub mod Laws
