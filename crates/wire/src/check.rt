@@ -24,7 +24,7 @@ const RAGGED_ENTRIES: u64 = 7;
 const WRONG_MASK: u64 = 8;
 
 // A refusal without a place, or with number 0 none.
-fn refusal(number: u64) -> Fault
+pub fn refusal(number: u64) -> Fault
     ensures { λ r. ⌜ r ≡ C.numbered number ⌝ }
 {
     Fault { number, place: 0 }

@@ -1,0 +1,195 @@
+-- Demand 3 holds of every history.
+use Prim.Native.Nat.{ℕ, suc, _<_, _≤_}
+use mathlib.Core.Path.{_≡_, refl, sym, ap, ap₂, _∙_, subst}
+use mathlib.Core.Bool.{Bool, true, false, cond, _&&_, _||_, false≢true, or-true}
+use mathlib.Core.Option.{Option, none, some, Option·map}
+use mathlib.Core.List.{List, [], _∷_}
+use lib.Dec.{eqb, leb}
+use native.Mathlib.Omega.{arith}
+use borrow.Author.Tests.{ltb-true, eqb-true, eqb-false, lt-ltb, eq-eqb, ne-eqb, leb-true, le-leb}
+use Rattle.lists.specs.Lists.{maybe, keep, elem}
+use Rattle.lists.specs.Keyed.{lookup, mapValues}
+use Rattle.lists.proofs.Tests.{both, and-left, and-right, or-else}
+use Rattle.lists.proofs.Lists.{all-true, all-elem}
+use Rattle.lists.proofs.Keyed.{lookup-mapValues}
+use Rattle.lists.proofs.Rising.{Rising, rising-mapValues, found-once}
+use Rattle.window.specs.Window.{distance, inside, count, tally}
+use Rattle.window.proofs.Numbers.{distance-lt}
+use Rattle.window.proofs.Words.{tally-none, tally-same, tally-most}
+use Rattle.rules.specs.Settings.{Config, MakeArgs, configOf, makeAllowed}
+use Rattle.rules.specs.Calls.{Call}
+use Rattle.rules.specs.Rules.{Ogm, sequenceOf, notHigher, fresh}
+use Rattle.rules.specs.Table.{TableRecord, TableState, marksAt, isMarked, table}
+use Rattle.rules.proofs.Config.{make-allowed}
+use Rattle.history.specs.Book.{Log, one, cons, latest, current, came, stays, logCount, logLinks, noneHigher, logBest, book}
+use Rattle.history.specs.TableOfBook.{recordOf}
+use Rattle.history.specs.History.{after}
+use Rattle.history.specs.Demand.{Stood, now, before, Later, past, Stayed, NoneHigher, Best, Stands, bookThen, Demand3}
+use Rattle.history.proofs.Sound.{fresh-sound, after-sound}
+use Rattle.history.proofs.Log.{W, absent}
+use Rattle.history.proofs.Records.{count-marks, marks-at, marked-stays}
+use Rattle.history.proofs.History.{history}
+
+-- ---- logs as they stood
+
+size : Log → ℕ
+size (one m) = 1
+size (cons m s) = suc (size s)
+
+stood-size : {s t : Log} → Stood s t → size t ≤ size s
+unfolding size
+stood-size now = omega arith
+stood-size (before e) = let h = stood-size e in omega arith
+
+stood-same : {s t : Log} → Stood s t → size s ≤ size t → s ≡ t
+unfolding size
+stood-same now h = refl
+stood-same (before e) h = absurd (let g = stood-size e in omega arith)
+
+later-size : {s t : Log} → Later s t → size t < size s
+unfolding size
+later-size (past e) = let h = stood-size e in omega arith
+
+-- ---- a number that stays
+
+module _ (κ : Config) (l n : ℕ) where
+  at-latest : (m : Ogm) (s : Log) → latest s ≡ m → came m l n ≡ true → distance (current κ s) n < W κ → Stayed κ s l n
+  at-latest m s e h k =
+      record {
+        at = s;
+        stood = now;
+        link = ap (λ x. x .link) e ∙ sym (eqb-true l (m .link) (and-left (eqb l (m .link)) (eqb n (sequenceOf m)) h));
+        number = ap sequenceOf e ∙ sym (eqb-true n (sequenceOf m) (and-right (eqb l (m .link)) (eqb n (sequenceOf m)) h));
+        inside = λ u a b. subst (λ v. distance (current κ v) n < W κ) (stood-same a (stood-size b)) k;
+      }
+
+  -- one OGM more leaves what stayed, if its window still holds it
+  still : (m : Ogm) (s : Log) → distance (current κ (cons m s)) n < W κ → Stayed κ s l n → Stayed κ (cons m s) l n
+  still m s i r = record { at = r .at; stood = before (r .stood); link = r .link; number = r .number; inside = go }
+    where
+      go : (u : Log) → Stood (cons m s) u → Stood u (r .at) → distance (current κ u) n < W κ
+      go u now b = i
+      go u (before a) b = r .inside u a b
+
+  stayed : (s : Log) → stays κ s l n ≡ true → Stayed κ s l n
+  unfolding stays inside current
+  stayed (one m) h =
+      at-latest m (one m) refl (and-right (inside (W κ) (sequenceOf m) n) (came m l n) h) (ltb-true (distance (sequenceOf m) n) (W κ) (and-left (inside (W κ) (sequenceOf m) n) (came m l n) h))
+  stayed (cons m s) h = go (came m l n) refl (stayed s)
+    where
+      i : distance (current κ (cons m s)) n < W κ
+      i = ltb-true (distance (current κ (cons m s)) n) (W κ) (and-left (inside (W κ) (current κ (cons m s)) n) (came m l n || stays κ s l n) h)
+
+      go : (t : Bool) → came m l n ≡ t → (stays κ s l n ≡ true → Stayed κ s l n) → Stayed κ (cons m s) l n
+      go true e f = at-latest m (cons m s) refl e i
+      go false e f = still m s i (f (or-else (came m l n) (stays κ s l n) (and-right (inside (W κ) (current κ (cons m s)) n) (came m l n || stays κ s l n) h) e))
+
+  -- the other way round
+  came-as : (m : Ogm) → m .link ≡ l → sequenceOf m ≡ n → came m l n ≡ true
+  came-as m p q = both (eq-eqb l (m .link) (sym p)) (eq-eqb n (sequenceOf m) (sym q))
+
+  back : (s t : Log) → Stood s t → latest t .link ≡ l → sequenceOf (latest t) ≡ n
+      → ((u : Log) → Stood s u → Stood u t → distance (current κ u) n < W κ) → stays κ s l n ≡ true
+  unfolding stays inside current
+  back (one m) t now p q k = both (lt-ltb (distance (sequenceOf m) n) (W κ) (k (one m) now now)) (came-as m p q)
+  back (cons m s) t now p q k = ap₂ (λ (a b : Bool). a && (b || stays κ s l n)) (lt-ltb (distance (current κ (cons m s)) n) (W κ) (k (cons m s) now now)) (came-as m p q)
+  back (cons m s) t (before e) p q k =
+      ap₂ (λ (a b : Bool). a && (came m l n || b)) (lt-ltb (distance (current κ (cons m s)) n) (W κ) (k (cons m s) now (before e))) (back s t e p q (λ u a b. k u (before a) b))
+      ∙ or-true (came m l n)
+
+-- ---- the best link
+
+module _ (κ : Config) where
+  count-absent : (s : Log) (l : ℕ) → elem l (logLinks s) ≡ false → logCount κ s l ≡ 0
+  unfolding logCount
+  count-absent s l h = tally-none (W κ) (λ k. stays κ s l (distance (current κ s) k)) (λ k _. absent κ s l (distance (current κ s) k) h)
+
+  -- no other link is higher: as a test over the log's links, and of every link
+  abbrev test : Log → ℕ → Bool
+  test s k = eqb k (latest s .link) || notHigher κ (logCount κ s k) (logCount κ s (latest s .link))
+
+  from-test : (s : Log) → noneHigher κ s (latest s .link) ≡ true → NoneHigher κ s
+  unfolding noneHigher notHigher
+  from-test s h l n = go (elem l (logLinks s)) refl
+    where
+      go : (t : Bool) → elem l (logLinks s) ≡ t → logCount κ s l ≤ logCount κ s (latest s .link)
+      go true e = leb-true (logCount κ s l) (logCount κ s (latest s .link)) (or-else (eqb l (latest s .link)) _ (all-elem (test s) (logLinks s) h l e) (ne-eqb l (latest s .link) n))
+      go false e = omega (arith, count-absent s l e)
+
+  to-test : (s : Log) → NoneHigher κ s → noneHigher κ s (latest s .link) ≡ true
+  unfolding noneHigher notHigher
+  to-test s h = all-true (test s) (λ k. go k (eqb k (latest s .link)) refl) (logLinks s)
+    where
+      go : (k : ℕ) (t : Bool) → eqb k (latest s .link) ≡ t → (t || leb (logCount κ s k) (logCount κ s (latest s .link))) ≡ true
+      go k true e = refl
+      go k false e = le-leb (logCount κ s k) (logCount κ s (latest s .link)) (h k (eqb-false k (latest s .link) e))
+
+  first-test : (m : Ogm) → noneHigher κ (one m) (m .link) ≡ true
+  unfolding noneHigher logLinks
+  first-test m = ap (λ (t : Bool). (t || notHigher κ (logCount κ (one m) (m .link)) (logCount κ (one m) (m .link))) && true) (eq-eqb (m .link) (m .link) refl)
+
+  best-latest : (s : Log) → noneHigher κ s (latest s .link) ≡ true → Best κ s (latest s .link)
+  best-latest s h =
+      record {
+        at = s;
+        stood = now;
+        link = refl;
+        highest = from-test s h;
+        last = λ u a b _. absurd (let x = stood-size a in let y = later-size b in omega arith);
+      }
+
+  best-is : (s : Log) → Best κ s (logBest κ s)
+  unfolding logBest
+  best-is (one m) = best-latest (one m) (first-test m)
+  best-is (cons m s) = go (noneHigher κ (cons m s) (m .link)) refl (best-is s)
+    where
+      go : (t : Bool) → noneHigher κ (cons m s) (m .link) ≡ t → Best κ s (logBest κ s) → Best κ (cons m s) (cond t (m .link) (logBest κ s))
+      go true e r = best-latest (cons m s) e
+      go false e r = record { at = r .at; stood = before (r .stood); link = r .link; highest = r .highest; last = last }
+        where
+          last : (u : Log) → Stood (cons m s) u → Later u (r .at) → NoneHigher κ u → ⊥
+          last u now b t = false≢true (sym e ∙ to-test (cons m s) t)
+          last u (before a) b t = r .last u a b t
+
+-- ---- a record stands as its log says
+
+module _ (κ : Config) (s : Log) where
+  how-many : (l : ℕ) → count (marksAt (recordOf κ s .links) l) ≡ tally (W κ) (λ k. isMarked κ (recordOf κ s) l (distance (current κ s) k))
+  unfolding logCount
+  how-many l =
+      ap count (marks-at κ s l) ∙ count-marks κ s l
+      ∙ tally-same (W κ) (λ k. stays κ s l (distance (current κ s) k)) (λ k. isMarked κ (recordOf κ s) l (distance (current κ s) k)) (λ k _. sym (marked-stays κ s l (distance (current κ s) k) (distance-lt (current κ s) k)))
+
+  stands : Stands κ s (recordOf κ s)
+  stands =
+      record {
+        window = λ l n h. ((λ e. stayed κ l n s (sym (marked-stays κ s l n h) ∙ e)), (λ r. marked-stays κ s l n h ∙ back κ l n s (r .at) (r .stood) (r .link) (r .number) (r .inside)));
+        howMany = how-many;
+        most = λ l. rw (how-many l) (tally-most (W κ) (λ k. isMarked κ (recordOf κ s) l (distance (current κ s) k)));
+        best = best-is κ s;
+      }
+
+-- ---- what stands under an address in a table that is a book's
+
+module _ (κ : Config) (es : List (ℕ × Log)) (r : Rising es) (o : ℕ) where
+  under : keep (λ (e : ℕ × TableRecord). eqb o (e .0)) (mapValues (recordOf κ) es) ≡ maybe (Option·map (recordOf κ) (lookup o es)) [] (λ v. (o, v) ∷ [])
+  under = found-once o (mapValues (recordOf κ) es) (rising-mapValues (recordOf κ) es r) ∙ ap (λ (f : Option TableRecord). maybe f [] (λ v. (o, v) ∷ [])) (lookup-mapValues (recordOf κ) o es)
+
+  under-is : (x : Option Log) → lookup o es ≡ x
+      → keep (λ (e : ℕ × TableRecord). eqb o (e .0)) (mapValues (recordOf κ) es) ≡ maybe (Option·map (recordOf κ) x) [] (λ v. (o, v) ∷ [])
+  under-is x h = under ∙ ap (λ (f : Option Log). maybe (Option·map (recordOf κ) f) [] (λ v. (o, v) ∷ [])) h
+
+-- DEMAND 3
+pub demand3 : (cells : ℕ) (a : MakeArgs) (cs : List Call) → makeAllowed cells a ≡ true → Demand3 cells a cs
+demand3 cells a cs h =
+    let p = make-allowed cells a h in
+    let e = history cells (configOf a) p cs .1 in
+    let b = bookThen cells a cs in
+    let r = after-sound book cells (fresh book (configOf a)) (fresh-sound book (configOf a) p) cs .rise in
+    let found : (o : ℕ) (x : Option Log) → lookup o (b .records) ≡ x → keep (λ (y : ℕ × TableRecord). eqb o (y .0)) (after table cells (fresh table (configOf a)) cs .records) ≡ maybe (Option·map (recordOf (b .config)) x) [] (λ v. (o, v) ∷ []) =
+    λ o x g. ap (λ (t : TableState). keep (λ (y : ℕ × TableRecord). eqb o (y .0)) (t .records)) e ∙ under-is (b .config) (b .records) r o x g in
+    record {
+      same = history cells (configOf a) p cs .0;
+      nothing = λ o g. found o none g;
+      one = λ o s g. (recordOf (b .config) s, found o (some s) g, subst (λ (t : TableState). Stands (t .config) s (recordOf (b .config) s)) (sym e) (stands (b .config) s));
+    }

@@ -1,0 +1,116 @@
+-- What one more counted OGM does to a log's current number and marks.
+use Prim.Native.Nat.{ℕ, _+_, _-_, _<_, _≤_}
+use mathlib.Core.Path.{_≡_, refl, sym, ap, ap₂, _∙_}
+use mathlib.Core.Bool.{Bool, true, false, cond, _&&_, _||_, and-false}
+use lib.Dec.{eqb, leb}
+use native.Mathlib.Omega.{arith}
+use borrow.Author.Tests.{ltb-false, lt-ltb, le-ltb, eq-eqb, leb-true, leb-false}
+use Rattle.lists.specs.Lists.{elem}
+use Rattle.lists.proofs.Tests.{both, and-left, or-neither}
+use Rattle.lists.proofs.Keyed.{elem-putKey}
+use Rattle.window.specs.Window.{numbers, distance, inside, advance}
+use Rattle.window.proofs.Numbers.{distance-back, distance-self, distance-higher, distance-lower, distance-turn}
+use Rattle.window.proofs.Words.{some-tally}
+use Rattle.rules.specs.Settings.{Config, allowed}
+use Rattle.rules.specs.Rules.{Ogm, sequenceOf}
+use Rattle.rules.proofs.Config.{window-low, window-high}
+use Rattle.rules.proofs.Counting.{sequence-lt, advance-lt, advance-inside}
+use Rattle.history.specs.Book.{Log, one, cons, latest, current, came, stays, logCount, logLinks}
+
+module _ (κ : Config) where
+  abbrev pub W : ℕ
+  W = κ .settings .window
+
+  pub current-lt : (s : Log) → current κ s < numbers
+  unfolding current advance
+  current-lt (one m) = sequence-lt m
+  current-lt (cons m s) = advance-lt W (current κ s) (sequenceOf m) (current-lt s) (sequence-lt m)
+
+  -- what stays is inside the window
+  stays-inside : (s : Log) (l n : ℕ) → stays κ s l n ≡ true → inside W (current κ s) n ≡ true
+  unfolding stays current
+  stays-inside (one m) l n h = and-left (inside W (sequenceOf m) n) (came m l n) h
+  stays-inside (cons m s) l n h = and-left (inside W (current κ (cons m s)) n) (came m l n || stays κ s l n) h
+
+  pub outside-false : (s : Log) (l n : ℕ) → W ≤ distance (current κ s) n → stays κ s l n ≡ false
+  unfolding inside
+  outside-false s l n h = go (stays κ s l n) refl
+    where
+      go : (t : Bool) → stays κ s l n ≡ t → t ≡ false
+      go true e = sym (stays-inside s l n e) ∙ le-ltb (distance (current κ s) n) W h
+      go false e = refl
+
+  -- a link that no OGM came by has no marks
+  pub absent : (s : Log) (l n : ℕ) → elem l (logLinks s) ≡ false → stays κ s l n ≡ false
+  unfolding stays logLinks
+  absent (one m) l n h = ap (λ (t : Bool). inside W (sequenceOf m) n && (t && eqb n (sequenceOf m))) (or-neither (eqb l (m .link)) false h .0) ∙ and-false (inside W (sequenceOf m) n)
+  absent (cons m s) l n h =
+      let q : (eqb l (m .link) ≡ false) × (elem l (logLinks s) ≡ false) = or-neither (eqb l (m .link)) (elem l (logLinks s)) (sym (elem-putKey l (m .link) (logLinks s)) ∙ h) in
+      ap₂ (λ (a b : Bool). inside W (current κ (cons m s)) n && ((a && eqb n (sequenceOf m)) || b)) (q .0) (absent s l n (q .1)) ∙ and-false (inside W (current κ (cons m s)) n)
+
+  module _ (h : allowed κ ≡ true) where
+    -- the number k below current lies in the window
+    pub inside-below : (c k : ℕ) → c < numbers → k < W → inside W c (distance c k) ≡ true
+    unfolding inside
+    inside-below c k hc hk = lt-ltb (distance c (distance c k)) W (rw (distance-back c k hc (omega (arith, window-high κ h))) hk)
+
+    -- a window that moves leaves all that does not reach up to its new place
+    far : (m : Ogm) (s : Log) (k : ℕ) → k < distance (current κ (cons m s)) (current κ s) → W ≤ distance (current κ s) (distance (current κ (cons m s)) k)
+    unfolding current inside
+    far m s k = go (inside W (current κ s) (sequenceOf m)) refl
+      where
+        go : (t : Bool) → inside W (current κ s) (sequenceOf m) ≡ t → k < distance (cond t (current κ s) (sequenceOf m)) (current κ s)
+            → W ≤ distance (current κ s) (distance (cond t (current κ s) (sequenceOf m)) k)
+        go true e l = absurd (let z : distance (current κ s) (current κ s) ≡ 0 = distance-self (current κ s) in omega arith)
+        go false e l =
+            let p : distance (current κ s) (sequenceOf m) + k ≡ distance (current κ s) (distance (sequenceOf m) k) = distance-lower (current κ s) (sequenceOf m) k (current-lt s) (sequence-lt m) l in
+            let q : W ≤ distance (current κ s) (sequenceOf m) = ltb-false (distance (current κ s) (sequenceOf m)) W e in
+            omega arith
+
+    -- what stayed before one more OGM, seen from the current number then
+    stays-before : (m : Ogm) (s : Log) (l k : ℕ) → k < W
+        → stays κ s l (distance (current κ (cons m s)) k) ≡ (leb (distance (current κ (cons m s)) (current κ s)) k && stays κ s l (distance (current κ s) (k - distance (current κ (cons m s)) (current κ s))))
+    stays-before m s l k hk = go (leb d k) refl
+      where
+        c : ℕ
+        c = current κ (cons m s)
+
+        d : ℕ
+        d = distance (current κ (cons m s)) (current κ s)
+
+        go : (t : Bool) → leb (distance (current κ (cons m s)) (current κ s)) k ≡ t
+            → stays κ s l (distance (current κ (cons m s)) k) ≡ (t && stays κ s l (distance (current κ s) (k - distance (current κ (cons m s)) (current κ s))))
+        go true e = ap (stays κ s l) (distance-higher (current κ s) c k (current-lt s) (current-lt (cons m s)) (omega (arith, window-high κ h)) (leb-true d k e))
+        go false e = outside-false s l (distance c k) (far m s k (leb-false d k e))
+
+    -- the marks after one more OGM, by their places below current
+    pub stays-next : (m : Ogm) (s : Log) (l k : ℕ) → k < W
+        → stays κ (cons m s) l (distance (current κ (cons m s)) k) ≡ ((eqb l (m .link) && eqb k (distance (current κ (cons m s)) (sequenceOf m))) || (leb (distance (current κ (cons m s)) (current κ s)) k && stays κ s l (distance (current κ s) (k - distance (current κ (cons m s)) (current κ s)))))
+    unfolding stays
+    stays-next m s l k hk =
+        let c = current κ (cons m s) in
+        ap (λ (t : Bool). t && (came m l (distance c k) || stays κ s l (distance c k))) (inside-below c k (current-lt (cons m s)) hk)
+        ∙ ap₂ (λ (a b : Bool). (eqb l (m .link) && a) || b)
+        (distance-turn c k (sequenceOf m) (current-lt (cons m s)) (sequence-lt m) (omega (arith, window-high κ h)))
+        (stays-before m s l k hk)
+
+    -- the latest OGM's number lies in the window, and stays on its link
+    pub latest-in : (s : Log) → distance (current κ s) (sequenceOf (latest s)) < W
+    unfolding current advance
+    latest-in (one m) = omega (arith, distance-self (sequenceOf m), window-low κ h)
+    latest-in (cons m s) = advance-inside W (current κ s) (sequenceOf m) (window-low κ h)
+
+    came-latest : (m : Ogm) → came m (m .link) (sequenceOf m) ≡ true
+    came-latest m = both (eq-eqb (m .link) (m .link) refl) (eq-eqb (sequenceOf m) (sequenceOf m) refl)
+
+    latest-stays : (s : Log) → stays κ s (latest s .link) (sequenceOf (latest s)) ≡ true
+    unfolding stays inside current
+    latest-stays (one m) = both (lt-ltb (distance (sequenceOf m) (sequenceOf m)) W (latest-in (one m))) (came-latest m)
+    latest-stays (cons m s) = ap₂ (λ (a b : Bool). a && (b || stays κ s (m .link) (sequenceOf m))) (lt-ltb (distance (current κ (cons m s)) (sequenceOf m)) W (latest-in (cons m s))) (came-latest m)
+
+    -- so its link has a mark
+    pub latest-some : (s : Log) → 0 < logCount κ s (latest s .link)
+    unfolding logCount
+    latest-some s =
+        some-tally W (λ k. stays κ s (latest s .link) (distance (current κ s) k)) (distance (current κ s) (sequenceOf (latest s))) (latest-in s)
+        (ap (stays κ s (latest s .link)) (distance-back (current κ s) (sequenceOf (latest s)) (current-lt s) (sequence-lt (latest s))) ∙ latest-stays s)

@@ -1,0 +1,190 @@
+-- Two readings whose words agree under a map give the same replies for every history, and the map leads from one end to the other.
+-- This file knows the rules, and nothing of windows, marks, distances or octets.
+use Prim.Native.Nat.{ℕ, _-_}
+use mathlib.Core.Path.{_≡_, refl, sym, ap, _∙_}
+use mathlib.Core.Bool.{Bool, true, not}
+use mathlib.Core.Option.{Option, none, some, Option·map}
+use mathlib.Core.List.{List, [], _∷_, _++_}
+use lib.Dec.{ltb}
+use borrow.Author.Tests.{not-false}
+use Rattle.lists.specs.Lists.{maybe, keep}
+use Rattle.lists.specs.Keyed.{lookup, mapValues}
+use Rattle.lists.proofs.Tests.{cond-ap, maybe-map}
+use Rattle.lists.proofs.Lists.{keep-map, keep-same}
+use Rattle.lists.proofs.Keyed.{lookup-mapValues, length-mapValues, put-mapValues}
+use Rattle.wire.specs.declared.Header.{Header}
+use Rattle.wire.specs.declared.Fault.{Fault}
+use Rattle.wire.specs.Packet.{header}
+use Rattle.wire.specs.Check.{firstOf}
+use Rattle.rules.specs.Settings.{Config, configOf, allowed, makeAllowed}
+use Rattle.rules.specs.Calls.{Call, make, receive, own, sweep, ask, list, ReceiveArgs, Reply}
+use Rattle.rules.specs.Rules.{Ogm, sequenceOf, Sends, sendOn, Words, StateOf, OutcomeOf, unless, receiveFaults, linkBy, message, isDuplicate, refuse, routeOf, linkRows, answerBest, fillRows, send, isExpired, purge, step}
+use Rattle.rules.specs.Refusals.{Questions, found, questions, countedRecord, roomFacts, stateThen, recordThen, wouldPass, taken, facts, outcome}
+use Rattle.rules.proofs.Faults.{none-at, not-given}
+use Rattle.rules.proofs.Config.{make-allowed}
+use Rattle.rules.proofs.Sends.{Fit}
+use Rattle.rules.proofs.Exactly.{flat}
+use Rattle.history.specs.History.{after, replies}
+use Rattle.history.proofs.Sound.{Sound, step-sound}
+
+-- f and g take the parts of B to those of T, and each word with them, under κ
+pub record Agree (B T : Words) (f : Config → B .Record → T .Record) (g : Config → Sends → B .Rows → T .Rows) (κ : Config) : Type 0 where
+  pub first : (m : Ogm) → T .first κ m ≡ f κ (B .first κ m)
+  pub next : (m : Ogm) (a : B .Record) → T .next κ m (f κ a) ≡ f κ (B .next κ m a)
+  pub time : (a : B .Record) → T .time (f κ a) ≡ B .time a
+  pub lastTtl : (a : B .Record) → T .lastTtl (f κ a) ≡ B .lastTtl a
+  pub duplicate : (a : B .Record) (m : Ogm) → T .duplicate κ (f κ a) (m .link) (sequenceOf m) ≡ B .duplicate κ a (m .link) (sequenceOf m)
+  pub best : (a : B .Record) → T .best κ (f κ a) ≡ B .best κ a
+  pub links : (a : B .Record) → T .links κ (f κ a) ≡ B .links κ a
+  pub noRows : (ns : Sends) → T .noRows ≡ g κ ns (B .noRows)
+  pub hasRow : (ns : Sends) (rs : B .Rows) (l : ℕ) → T .hasRow κ (g κ ns rs) l ≡ B .hasRow κ rs l
+  pub rowsHeld : (ns : Sends) (rs : B .Rows) → T .rowsHeld κ (g κ ns rs) ≡ B .rowsHeld κ rs
+  pub echo : (ns : Sends) → Fit ns → (l : ℕ) (rs : B .Rows) → T .echo κ ns l (g κ ns rs) ≡ g κ ns (B .echo κ ns l rs)
+  pub sent : (ns : Sends) → Fit ns → (i : ℕ) (rs : B .Rows) → T .sent κ (sendOn κ ns i) i (g κ ns rs) ≡ g κ (sendOn κ ns i) (B .sent κ (sendOn κ ns i) i rs)
+
+module _ (B T : Words) (f : Config → B .Record → T .Record) (g : Config → Sends → B .Rows → T .Rows) where
+  abbrev pub image : StateOf B → StateOf T
+  image s =
+      record {
+        config = s .config;
+        time = s .time;
+        sends = s .sends;
+        rows = g (s .config) (s .sends) (s .rows);
+        records = mapValues (f (s .config)) (s .records);
+      }
+
+  abbrev pub imageOf : OutcomeOf B → OutcomeOf T
+  imageOf o = record { reply = o .reply; state = image (o .state) }
+
+-- ---- one call, on a state s of B
+
+module _ (B T : Words) (f : Config → B .Record → T .Record) (g : Config → Sends → B .Rows → T .Rows) (s : StateOf B) (A : Agree B T f g (s .config)) (fit : Fit (s .sends)) where
+  abbrev κ : Config
+  κ = s .config
+
+  abbrev s′ : StateOf T
+  s′ = image B T f g s
+
+  route-same : (x : Option (B .Record)) → routeOf T κ (Option·map (f κ) x) ≡ routeOf B κ x
+  route-same none = refl
+  route-same (some a) = rw (A .links a, A .best a)
+
+  rows-same : (x : Option (B .Record)) → linkRows T κ (Option·map (f κ) x) ≡ linkRows B κ x
+  rows-same none = refl
+  rows-same (some a) = rw (A .links a, A .best a)
+
+  -- a test of records keeps the same ones
+  kept-same : (p : T .Record → Bool) (q : B .Record → Bool) → ((a : B .Record) → p (f κ a) ≡ q a)
+      → keep (λ (e : ℕ × T .Record). p (e .1)) (s′ .records) ≡ mapValues (f κ) (keep (λ (e : ℕ × B .Record). q (e .1)) (s .records))
+  kept-same p q h =
+      keep-map (λ (e : ℕ × B .Record). (e .0, f κ (e .1))) (λ (e : ℕ × T .Record). p (e .1)) (s .records)
+      ∙ ap (mapValues (f κ)) (keep-same (λ (e : ℕ × B .Record). p (f κ (e .1))) (λ (e : ℕ × B .Record). q (e .1)) (λ e. h (e .1)) (s .records))
+
+  expired-same : (t : ℕ) (a : B .Record) → isExpired T κ t (f κ a) ≡ isExpired B κ t a
+  expired-same t a = ap (λ n. ltb (κ .settings .purge) (t - n)) (A .time a)
+
+  -- a received packet
+  module _ (r : ReceiveArgs) (h : Header) where
+    found-same : found T s′ r h ≡ Option·map (f κ) (found B s r h)
+    found-same = lookup-mapValues (f κ) (h .originator) (s .records)
+
+    duplicate-same : isDuplicate T κ r h (found T s′ r h) ≡ isDuplicate B κ r h (found B s r h)
+    duplicate-same = ap (isDuplicate T κ r h) found-same ∙ go (found B s r h)
+      where
+        go : (x : Option (B .Record)) → isDuplicate T κ r h (Option·map (f κ) x) ≡ isDuplicate B κ r h x
+        go none = refl
+        go (some a) = A .duplicate a (message r h)
+
+    questions-same : questions T s′ r h ≡ questions B s r h
+    questions-same = rw (A .hasRow (s .sends) (s .rows) (linkBy r), duplicate-same)
+
+    counted-same : countedRecord T s′ r h ≡ f κ (countedRecord B s r h)
+    counted-same = ap (λ (x : Option (T .Record)). maybe x (T .first κ (message r h)) (λ a. T .next κ (message r h) a)) found-same ∙ go (found B s r h)
+      where
+        go : (x : Option (B .Record))
+            → maybe (Option·map (f κ) x) (T .first κ (message r h)) (λ a. T .next κ (message r h) a) ≡ f κ (maybe x (B .first κ (message r h)) (λ a. B .next κ (message r h) a))
+        go none = A .first (message r h)
+        go (some a) = A .next (message r h) a
+
+    room-same : (q : Questions) → roomFacts T s′ r h q ≡ roomFacts B s r h q
+    room-same q = rw (A .rowsHeld (s .sends) (s .rows), counted-same, A .links, found-same, maybe-map, length-mapValues)
+
+    state-same : (q : Questions) → stateThen T s′ r h q ≡ image B T f g (stateThen B s r h q)
+    state-same q =
+        rw (
+          A .echo (s .sends) fit (linkBy r) (s .rows),
+          counted-same,
+          put-mapValues (f κ) (h .originator) (countedRecord B s r h) (s .records),
+          ← cond-ap (g κ (s .sends)),
+          ← cond-ap (mapValues (f κ)),
+        )
+
+    then-same : (q : Questions) → recordThen T s′ r h q ≡ Option·map (f κ) (recordThen B s r h q)
+    then-same q = ap (λ (t : StateOf T). lookup (h .originator) (t .records)) (state-same q) ∙ lookup-mapValues (f κ) (h .originator) (stateThen B s r h q .records)
+
+    pass-same : (q : Questions) → wouldPass T s′ r h q ≡ wouldPass B s r h q
+    pass-same q = rw (then-same q, found-same) (simp (maybe-map, A .best, A .lastTtl))
+
+    taken-same : (q : Questions) → taken T s′ r h q ≡ imageOf B T f g (taken B s r h q)
+    taken-same q = rw (pass-same q, then-same q, route-same (recordThen B s r h q), state-same q)
+
+  facts-same : (cells : ℕ) (c : Call) → facts T cells s′ c ≡ facts B cells s c
+  unfolding facts
+  facts-same cells (make a) = refl
+  facts-same cells (receive r) =
+      let h = header (r .packet) in
+      ap (λ (fs : List (Option Fault)). receiveFaults κ (s .time) r ++ fs) (ap (roomFacts T s′ r h) (questions-same r h) ∙ room-same r h (questions B s r h))
+  facts-same cells (own a) = refl
+  facts-same cells (sweep t) = refl
+  facts-same cells (ask o) = refl
+  facts-same cells (list o lent) = rw (lookup-mapValues (f κ) o (s .records), rows-same (lookup o (s .records)))
+
+module _ (B T : Words) (f : Config → B .Record → T .Record) (g : Config → Sends → B .Rows → T .Rows) (agree : (κ : Config) → allowed κ ≡ true → Agree B T f g κ) (cells : ℕ) where
+  outcome-same : (s : StateOf B) → Sound B s → (c : Call) → firstOf (facts B cells s c) ≡ none
+      → outcome T cells (image B T f g s) c ≡ imageOf B T f g (outcome B cells s c)
+  unfolding facts outcome send purge answerBest fillRows
+  outcome-same s p (make a) n =
+      let h = make-allowed cells a (not-false (makeAllowed cells a) (not-given (not (makeAllowed cells a)) 12 (none-at (facts B cells s (make a)) n 0))) in
+      rw (agree (configOf a) h .noRows [])
+  outcome-same s p (receive r) n =
+      let A = agree (s .config) (p .allowed) in
+      let h = header (r .packet) in
+      ap (taken T (image B T f g s) r h) (questions-same B T f g s A (p .fit) r h) ∙ taken-same B T f g s A (p .fit) r h (questions B s r h)
+  outcome-same s p (own a) n = rw (agree (s .config) (p .allowed) .sent (s .sends) (p .fit) (a .interface) (s .rows))
+  outcome-same s p (sweep t) n =
+      let A = agree (s .config) (p .allowed) in
+      let e = expired-same B T f g s A (p .fit) t in
+      rw (
+        kept-same B T f g s A (p .fit) (isExpired T (s .config) t) (isExpired B (s .config) t) e,
+        kept-same B T f g s A (p .fit) (λ a. not (isExpired T (s .config) t a)) (λ a. not (isExpired B (s .config) t a)) (λ a. ap not (e a)),
+        length-mapValues,
+      )
+  outcome-same s p (ask o) n =
+      rw (lookup-mapValues (f (s .config)) o (s .records), route-same B T f g s (agree (s .config) (p .allowed)) (p .fit) (lookup o (s .records)))
+  outcome-same s p (list o lent) n =
+      rw (lookup-mapValues (f (s .config)) o (s .records), rows-same B T f g s (agree (s .config) (p .allowed)) (p .fit) (lookup o (s .records)))
+
+  step-same : (s : StateOf B) → Sound B s → (c : Call) → step T cells (image B T f g s) c ≡ imageOf B T f g (step B cells s c)
+  unfolding unless
+  step-same s p c =
+      flat T cells (image B T f g s) c
+      ∙ ap (λ (fs : List (Option Fault)). unless (firstOf fs) (refuse T c (image B T f g s)) (outcome T cells (image B T f g s) c)) (facts-same B T f g s (agree (s .config) (p .allowed)) (p .fit) cells c)
+      ∙ go (firstOf (facts B cells s c)) (outcome-same s p c)
+      ∙ ap (imageOf B T f g) (sym (flat B cells s c))
+    where
+      go : (x : Option Fault) → (x ≡ none → outcome T cells (image B T f g s) c ≡ imageOf B T f g (outcome B cells s c))
+          → unless x (refuse T c (image B T f g s)) (outcome T cells (image B T f g s) c) ≡ imageOf B T f g (unless x (refuse B c s) (outcome B cells s c))
+      go none h = h refl
+      go (some e) h = refl
+
+  -- for every history: equal replies, and the map leads from one end to the other
+  pub history-same : (s : StateOf B) → Sound B s → (cs : List Call)
+      → (replies T cells (image B T f g s) cs ≡ replies B cells s cs) × (after T cells (image B T f g s) cs ≡ image B T f g (after B cells s cs))
+  unfolding replies after
+  history-same s p [] = (refl, refl)
+  history-same s p (c ∷ cs) =
+      let e = step-same s p c in
+      let r = history-same (step B cells s c .state) (step-sound B cells s p c) cs in (
+        ap (λ (o : OutcomeOf T). o .reply ∷ replies T cells (o .state) cs) e ∙ ap (λ (l : List Reply). step B cells s c .reply ∷ l) (r .0),
+        ap (λ (o : OutcomeOf T). after T cells (o .state) cs) e ∙ r .1,
+      )

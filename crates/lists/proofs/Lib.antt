@@ -1,0 +1,5 @@
+-- Laws of the definitions on lists.
+pub mod Tests
+pub mod Lists
+pub mod Keyed
+pub mod Rising

@@ -1,0 +1,61 @@
+-- P1 to P12 and the edges: the rule gives the answer due at every row, by one test that antt computes over all rows.
+use Prim.Native.Nat.{ℕ}
+use mathlib.Core.Path.{_≡_, refl, sym, ap₂, subst}
+use mathlib.Core.Bool.{Bool, true, false, _&&_, false≢true}
+use mathlib.Core.List.{List, [], _∷_, List·Memᴰ, List·Memᴰ·head, List·Memᴰ·tail}
+use lib.Dec.{eqb}
+use lib.Count.{ones, onesIn}
+use borrow.Author.Tests.{eqb-true}
+use Rattle.lists.specs.Lists.{all, writtenTo}
+use Rattle.lists.proofs.Tests.{and-left, and-right}
+use Rattle.window.specs.Window.{distance, inside, advance, bit, shift, mark, word}
+use Rattle.wire.specs.Packet.{header, headerOctets, packetOf, isU, isD, unnamed}
+use Rattle.wire.specs.Check.{firstWhere, firstBadMask, hnaFault, packetFault, writtenFault, packetCheck}
+use Rattle.wire.specs.PassOn.{flagsHere, flagsElsewhere, passedOn}
+use Rattle.rules.specs.Settings.{allowed, cellsNeeded, makeAllowed}
+use Rattle.rules.specs.Calls.{linkOf, neighbourOf, interfaceOf, refusal}
+use Rattle.rules.specs.Rules.{notHigher, lastSent, nextNumber, branch, unless, receiveFault, ownFault, conclude, answerBest, fillRows, verdict, storeCounted, counted, uncounted, decide, takeEcho, judge, send, purge, step}
+use Rattle.rules.specs.Table.{firstRecord, nextRecord, isMarked, recordEcho, dropOld}
+use Rattle.rules.specs.WellFormed.{wellFormed}
+use Rattle.rules.specs.Examples.{Row, reply, examples}
+use Rattle.rules.specs.Edges.{edges}
+
+abbrev same : List ℕ → List ℕ → Bool
+same [] [] = true
+same [] (y ∷ ys) = false
+same (x ∷ xs) [] = false
+same (x ∷ xs) (y ∷ ys) = eqb x y && same xs ys
+
+same-eq : (xs ys : List ℕ) → same xs ys ≡ true → xs ≡ ys
+same-eq [] [] t = refl
+same-eq [] (y ∷ ys) t = absurd (false≢true t)
+same-eq (x ∷ xs) [] t = absurd (false≢true t)
+same-eq (x ∷ xs) (y ∷ ys) t =
+    ap₂ (λ (a : ℕ) (l : List ℕ). a ∷ l) (eqb-true x y (and-left (eqb x y) (same xs ys) t)) (same-eq xs ys (and-right (eqb x y) (same xs ys) t))
+
+-- answers asked and answers due, of each element of a list
+module _ {A : Type 0} (asked due : A → List ℕ) where
+  abbrev pub right : A → Bool
+  right x = same (asked x) (due x)
+
+  pub each : (xs : List A) → all right xs ≡ true → (x : A) → List·Memᴰ x xs → asked x ≡ due x
+  each (y ∷ ys) t x (List·Memᴰ·head e) = subst (λ (z : A). asked z ≡ due z) (sym e) (same-eq (asked y) (due y) (and-left (right y) (all right ys) t))
+  each (y ∷ ys) t x (List·Memᴰ·tail m) = each ys (and-right (right y) (all right ys) t) x m
+
+abbrev asks : Row → List ℕ
+asks r = reply (r .ask)
+
+abbrev says : Row → List ℕ
+says r = r .says
+
+-- the test, over both tables
+all-right : (all (right asks says) examples ≡ true) × (all (right asks says) edges ≡ true)
+unfolding examples edges wellFormed ones onesIn writtenTo distance inside advance bit shift mark word header headerOctets packetOf isU isD unnamed firstWhere firstBadMask hnaFault packetFault writtenFault packetCheck flagsHere flagsElsewhere passedOn allowed cellsNeeded makeAllowed linkOf neighbourOf interfaceOf refusal notHigher lastSent nextNumber branch unless receiveFault ownFault conclude answerBest fillRows verdict storeCounted counted uncounted decide takeEcho judge send purge step firstRecord nextRecord isMarked recordEcho dropOld
+all-right = (refl, refl)
+
+-- P1 to P12
+pub examples-hold : (r : Row) → List·Memᴰ r examples → reply (r .ask) ≡ r .says
+examples-hold = each asks says examples (all-right .0)
+
+pub edges-hold : (r : Row) → List·Memᴰ r edges → reply (r .ask) ≡ r .says
+edges-hold = each asks says edges (all-right .1)

@@ -1,0 +1,10 @@
+-- Laws of the rules.
+pub mod Checked
+pub mod Faults
+pub mod Config
+pub mod Links
+pub mod Sends
+pub mod Exactly
+pub mod Counting
+pub mod WellFormed
+pub mod Promises

@@ -1,0 +1,98 @@
+-- The calls with all their arguments, what they lend among them, and the answers with all their fields.
+use Prim.Native.Nat.{ℕ, _+_, _*_, _/_, _%_}
+use mathlib.Core.List.{List, []}
+use Rattle.wire.specs.declared.Fault.{Fault}
+use Rattle.rules.specs.declared.Route.{Route}
+use Rattle.rules.specs.declared.LinkRow.{LinkRow}
+use Rattle.rules.specs.declared.Received.{Received}
+use Rattle.rules.specs.declared.Written.{Written}
+use Rattle.rules.specs.declared.Swept.{Swept}
+use Rattle.rules.specs.declared.Asked.{Asked}
+use Rattle.rules.specs.declared.Listed.{Listed}
+use Rattle.rules.specs.Settings.{MakeArgs, interfaceMost}
+
+-- ---- links
+
+-- a link is a pair of neighbour address and interface: one number, so that links rise by address, then interface
+unfoldable pub linkOf : (neighbour interface : ℕ) → ℕ
+linkOf neighbour interface = neighbour * interfaceMost + interface
+
+unfoldable pub neighbourOf : (link : ℕ) → ℕ
+neighbourOf link = link / interfaceMost
+
+unfoldable pub interfaceOf : (link : ℕ) → ℕ
+interfaceOf link = link % interfaceMost
+
+-- ---- calls
+
+pub record ReceiveArgs : Type 0 where
+  pub packet : List ℕ
+  pub sender : ℕ
+  pub interface : ℕ
+  pub time : ℕ
+  -- the lent output as it stands
+  pub output : List ℕ
+
+pub record OwnArgs : Type 0 where
+  pub interface : ℕ
+  pub time : ℕ
+  pub ttl : ℕ
+  pub gateway : ℕ
+  pub port : ℕ
+  -- HNA octets
+  pub hna : List ℕ
+  pub output : List ℕ
+
+pub data Call : Type 0 where
+  make : MakeArgs → Call
+  receive : ReceiveArgs → Call
+  own : OwnArgs → Call
+  sweep : (time : ℕ) → Call
+  -- the best question
+  ask : (originator : ℕ) → Call
+  -- with the lent rows as they stand
+  list : (originator : ℕ) → List LinkRow → Call
+
+-- ---- answers
+
+-- each begins with the number of its refusal, or 0; receive's with a refusal or a verdict
+pub data Answer : Type 0 where
+  made : (number : ℕ) → Answer
+  received : Received → Answer
+  written : Written → Answer
+  swept : Swept → Answer
+  asked : Asked → Answer
+  listed : Listed → Answer
+
+abbrev pub numberOf : Answer → ℕ
+numberOf (made n) = n
+numberOf (received a) = a .number
+numberOf (written a) = a .number
+numberOf (swept a) = a .number
+numberOf (asked a) = a .number
+numberOf (listed a) = a .number
+
+-- "no route"
+abbrev pub noRoute : Route
+noRoute = record { neighbour = 0; interface = 0; count = 0; window = 0 }
+
+-- what a call gives back: its answer, and what it was lent as it leaves it ([] where it is lent none)
+pub record Reply : Type 0 where
+  pub answer : Answer
+  pub output : List ℕ
+  pub rows : List LinkRow
+
+-- of a call that is lent neither output nor rows
+abbrev pub answered : Answer → Reply
+answered a = record { answer = a; output = []; rows = [] }
+
+-- a refused call returns its number, every other answer field 0 but the place for 8, and writes nothing
+unfoldable pub refusal : Call → Fault → Reply
+refusal (make a) f = answered (made (f .number))
+refusal (receive a) f =
+    record { answer = received (record { number = f .number; place = f .place; flags = 0; route = noRoute }); output = a .output; rows = [] }
+refusal (own a) f =
+    record { answer = written (record { number = f .number; place = f .place; length = 0; sequence = 0 }); output = a .output; rows = [] }
+refusal (sweep t) f = answered (swept (record { number = f .number; removed = 0 }))
+refusal (ask o) f = answered (asked (record { number = f .number; route = noRoute }))
+refusal (list o rs) f = record { answer = listed (record { number = f .number; filled = 0 }); output = []; rows = rs }

@@ -1,0 +1,254 @@
+-- The edges of the rules, each limit and one beyond it, as a table of rows like those of P1 to P12.
+use Prim.Native.Nat.{ℕ, zero, suc, _*_}
+use mathlib.Core.Bool.{true, false}
+use mathlib.Core.List.{List, [], _∷_, _++_, map}
+use lib.ListN.{replicate}
+use Rattle.rules.specs.declared.Settings.{Settings}
+use Rattle.rules.specs.declared.LinkRow.{LinkRow}
+use Rattle.rules.specs.Settings.{MakeArgs, defaults, cellsNeeded}
+use Rattle.rules.specs.Calls.{linkOf, make, receive, own, sweep, ask, list}
+use Rattle.rules.specs.Table.{TableRecord, TableState}
+use Rattle.rules.specs.Examples.{Ask, passes, sends, checks, makes, plays, leaves, formed, address, interface, settings, config, stage, recordWith, packet, hear, write, Row, row}
+
+-- ---- packets, settings and tables
+
+-- the HNA octets of entries with these masks
+abbrev pub entriesWith : List ℕ → List ℕ
+entriesWith [] = []
+entriesWith (m ∷ ms) = 0 ∷ 0 ∷ 0 ∷ 0 ∷ m ∷ entriesWith ms
+
+-- a packet of version 4 with these HNA octets
+abbrev pub checked : (version : ℕ) → List ℕ → Ask
+checked v e = checks v (4 ∷ (replicate 11 0 ++ e))
+
+abbrev pub five : (version window timeout purge capacity : ℕ) → Settings
+five v w b p n = record { version = v; window = w; timeout = b; purge = p; capacity = n }
+
+-- make with interfaces of these own addresses, so many in use
+abbrev pub makeArgs : Settings → (used : ℕ) → (owns : List ℕ) → MakeArgs
+makeArgs σ n owns = record { settings = σ; rows = map (λ a. interface a 1) owns; used = n }
+
+abbrev pub tried : Settings → (used : ℕ) → (owns : List ℕ) → Ask
+tried σ n owns = makes (cellsNeeded (σ .capacity)) (makeArgs σ n owns)
+
+abbrev pub upFrom : (first n : ℕ) → List ℕ
+upFrom a zero = []
+upFrom a (suc n) = a ∷ upFrom (suc a) n
+
+-- W is 8; neighbours 20, 28 and 30 have rows; originator 900 has these links, by neighbour, and no other is held
+abbrev pub held : (capacity current best : ℕ) → List (ℕ × List ℕ) → TableState
+held n c b ls = stage (settings 8 32 n) (20 ∷ 28 ∷ 30 ∷ []) ((900, recordWith 8 c b 0 ls) ∷ [])
+
+abbrev pub empty : TableState
+empty = stage (settings 8 32 64) (20 ∷ []) []
+
+-- one link, with mark 10, counted at time 0 with TTL 50
+abbrev pub single : TableState
+single = held 64 10 20 ((20, 10 ∷ []) ∷ [])
+
+-- B is 2, and the row of neighbour 20 stands at distance 1
+abbrev pub aged : TableState
+aged = record { config = config (settings 8 2 64); time = 0; sends = (0, 5) ∷ []; rows = (linkOf 20 0, 4) ∷ []; records = [] }
+
+-- so many neighbour rows, from neighbour 20 on
+abbrev pub crowd : ℕ → TableState
+crowd n = stage (settings 8 32 64) (upFrom 20 n) []
+
+-- an echo of the first interface's last packet
+abbrev pub echoed : List ℕ
+echoed = packet (address 10 0 0 1) 64 50 5
+
+-- eight links: neighbour 20's marks, neighbour 21's, and six with mark 10
+abbrev pub eight : (best : ℕ) → (first second : List ℕ) → TableState
+eight b xs ys = held 64 10 b ((20, xs) ∷ (21, ys) ∷ map (λ a. (a, 10 ∷ [])) (upFrom 22 6))
+
+-- an OGM of originator 900, relayed, with every field and an HNA entry
+abbrev pub relayed : List ℕ
+relayed = 4 ∷ 69 ∷ 50 ∷ 7 ∷ 0 ∷ 10 ∷ 1 ∷ 2 ∷ 0 ∷ 0 ∷ 3 ∷ 132 ∷ 1 ∷ 2 ∷ 3 ∷ 4 ∷ 24 ∷ []
+
+-- tables with these numbers sent, neighbour rows, records; with one record of these fields
+abbrev pub sentRows : List (ℕ × ℕ) → List (ℕ × ℕ) → TableState
+sentRows ns rs = record { config = config (settings 8 32 64); time = 0; sends = ns; rows = rs; records = [] }
+
+abbrev pub records : (capacity : ℕ) → List (ℕ × TableRecord) → TableState
+records n es = stage (settings 8 32 n) [] es
+
+abbrev pub fields : (current time ttl best : ℕ) → (links : List (ℕ × ℕ)) → TableState
+fields c t l b ls = records 64 ((900, record { current = c; time = t; lastTtl = l; best = b; links = ls }) ∷ [])
+
+-- a record with one link, with mark 10
+abbrev pub one : TableRecord
+one = recordWith 8 10 20 0 ((20, 10 ∷ []) ∷ [])
+
+abbrev pub blank : LinkRow
+blank = record { neighbour = 9; interface = 9; count = 9; window = 9; best = false }
+
+-- ---- the table
+
+unfoldable pub edges : List Row
+edges =
+    -- 5: 11 and 12 octets, 1,472 and 1,473
+    row (checks 4 (4 ∷ replicate 10 0)) (5 ∷ [])
+    ∷ row (checked 4 []) (0 ∷ [])
+    ∷ row (checked 4 (replicate 1460 0)) (0 ∷ [])
+    ∷ row (checked 4 (replicate 1461 0)) (5 ∷ [])
+    -- 6, 7, and 8 with the first bad place; the lower number first
+    ∷ row (checked 5 []) (6 ∷ [])
+    ∷ row (checked 4 (replicate 4 0)) (7 ∷ [])
+    ∷ row (checked 4 (entriesWith (32 ∷ []))) (0 ∷ [])
+    ∷ row (checked 4 (entriesWith (33 ∷ []))) (8 ∷ [])
+    ∷ row (checked 4 (entriesWith (0 ∷ 32 ∷ 33 ∷ 255 ∷ []))) (520 ∷ [])
+    ∷ row (checks 5 (4 ∷ replicate 10 0)) (5 ∷ [])
+    ∷ row (checked 5 (replicate 4 0)) (6 ∷ [])
+    ∷ row (checked 4 (entriesWith (33 ∷ []) ++ (0 ∷ []))) (7 ∷ [])
+    -- the same of a received packet
+    ∷ row (plays empty (hear 20 0 0 22 (4 ∷ (replicate 11 0 ++ entriesWith (32 ∷ 33 ∷ []))) ∷ hear 20 0 0 16 (4 ∷ replicate 15 0) ∷ [])) (264 ∷ 0 ∷ 7 ∷ 0 ∷ [])
+    ∷ row (plays empty (hear 20 0 0 12 (5 ∷ replicate 11 0) ∷ hear 20 0 0 11 (5 ∷ replicate 10 0) ∷ [])) (6 ∷ 0 ∷ 5 ∷ 0 ∷ [])
+    -- U and D told apart; unnamed bits stay
+    ∷ row (passes true 900 900 128 50) (0 ∷ 0 ∷ 24 ∷ 0 ∷ [])
+    ∷ row (passes true 900 900 64 50) (64 ∷ 49 ∷ 26 ∷ 0 ∷ [])
+    ∷ row (passes true 20 900 64 50) (0 ∷ 49 ∷ 26 ∷ 0 ∷ [])
+    ∷ row (passes false 900 900 63 50) (255 ∷ 49 ∷ 26 ∷ 63 ∷ [])
+    -- a relay without a neighbour row is not passed on
+    ∷ row (passes false 20 900 0 50) (0 ∷ 0 ∷ 25 ∷ 0 ∷ [])
+    -- TTL 2 leaves as 1, 1 and 0 are not passed on and may be counted
+    ∷ row (passes true 20 900 0 2) (0 ∷ 1 ∷ 26 ∷ 0 ∷ [])
+    ∷ row (passes true 20 900 0 1) (0 ∷ 0 ∷ 25 ∷ 0 ∷ [])
+    ∷ row (passes false 900 900 0 2) (192 ∷ 1 ∷ 26 ∷ 0 ∷ [])
+    ∷ row (passes false 900 900 0 1) (0 ∷ 0 ∷ 25 ∷ 0 ∷ [])
+    ∷ row (plays empty (hear 20 0 0 12 (packet 900 0 0 300) ∷ ask 900 ∷ [])) (25 ∷ 0 ∷ 0 ∷ 20 ∷ 1 ∷ [])
+    -- 13: an own packet's TTL 1 and 2; after 8; the first number, then one more modulo 65,536
+    ∷ row (plays empty (write 0 0 1 12 [] ∷ write 0 0 2 12 [] ∷ [])) (13 ∷ 0 ∷ 0 ∷ 6 ∷ [])
+    ∷ row (plays empty (write 0 0 1 22 (entriesWith (32 ∷ 33 ∷ [])) ∷ [])) (264 ∷ 0 ∷ [])
+    ∷ row (plays empty (write 1 0 50 12 [] ∷ write 1 0 50 12 [] ∷ [])) (0 ∷ 65535 ∷ 0 ∷ 0 ∷ [])
+    -- an own packet of 1,472 octets and of 1,477; of 16; the output exactly as long and one shorter
+    ∷ row (plays empty (write 0 0 50 1472 (replicate 1460 0) ∷ write 0 0 50 1477 (replicate 1465 0) ∷ [])) (0 ∷ 6 ∷ 5 ∷ 0 ∷ [])
+    ∷ row (plays empty (write 0 0 50 16 (replicate 4 0) ∷ write 0 0 50 11 [] ∷ write 0 0 50 1476 (replicate 1465 0) ∷ [])) (7 ∷ 0 ∷ 4 ∷ 0 ∷ 4 ∷ 0 ∷ [])
+    -- its octets, high octet first, and the rest of the output untouched; all of it where it is refused
+    ∷ row (leaves empty (own (record { interface = 1; time = 0; ttl = 3; gateway = 7; port = 258; hna = 1 ∷ 2 ∷ 3 ∷ 4 ∷ 24 ∷ []; output = replicate 18 9 })))
+    (4 ∷ 0 ∷ 3 ∷ 7 ∷ 255 ∷ 255 ∷ 1 ∷ 2 ∷ 10 ∷ 0 ∷ 0 ∷ 2 ∷ 1 ∷ 2 ∷ 3 ∷ 4 ∷ 24 ∷ 9 ∷ [])
+    ∷ row (leaves empty (own (record { interface = 2; time = 0; ttl = 3; gateway = 0; port = 0; hna = []; output = replicate 12 9 }))) (replicate 12 9)
+    -- the octets of a passed-on copy, of a verdict that writes nothing, and of a refusal
+    ∷ row (leaves empty (receive (record { packet = relayed; sender = 20; interface = 0; time = 0; output = replicate 18 9 })))
+    (4 ∷ 5 ∷ 49 ∷ 7 ∷ 0 ∷ 10 ∷ 1 ∷ 2 ∷ 0 ∷ 0 ∷ 3 ∷ 132 ∷ 1 ∷ 2 ∷ 3 ∷ 4 ∷ 24 ∷ 9 ∷ [])
+    ∷ row (leaves empty (receive (record { packet = relayed; sender = 50; interface = 0; time = 0; output = replicate 18 9 }))) (replicate 18 9)
+    ∷ row (leaves empty (receive (record { packet = relayed; sender = 20; interface = 2; time = 0; output = replicate 18 9 }))) (replicate 18 9)
+    -- 4: receive's output exactly as long and one shorter, verdict aside, before 5
+    ∷ row (plays single (hear 20 0 0 12 (packet 900 0 50 11) ∷ hear 20 0 0 11 (packet 900 0 50 12) ∷ [])) (26 ∷ 0 ∷ 4 ∷ 0 ∷ [])
+    ∷ row (plays single (hear (address 10 0 0 1) 0 0 11 (packet 900 0 50 12) ∷ hear 20 0 0 0 (4 ∷ []) ∷ [])) (4 ∷ 0 ∷ 4 ∷ 0 ∷ [])
+    -- 2: interfaces 0 and 1 are in use; before 3
+    ∷ row (plays single (hear 20 1 0 12 (packet 900 0 50 11) ∷ hear 20 2 0 12 (packet 900 0 50 11) ∷ write 2 0 50 12 [] ∷ [])) (25 ∷ 0 ∷ 2 ∷ 0 ∷ 2 ∷ 0 ∷ [])
+    -- 3: the same time and an earlier one; a verdict sets it, a refused call doesn't
+    ∷ row (plays empty (sweep 7 ∷ hear 20 0 7 12 (packet 900 0 50 10) ∷ hear 20 0 6 0 (packet 900 0 50 11) ∷ hear 20 2 6 0 [] ∷ [])) (0 ∷ 0 ∷ 26 ∷ 0 ∷ 3 ∷ 0 ∷ 2 ∷ 0 ∷ [])
+    ∷ row (plays empty (write 0 7 50 12 [] ∷ write 0 6 50 0 [] ∷ sweep 7 ∷ sweep 6 ∷ [])) (0 ∷ 6 ∷ 3 ∷ 0 ∷ 0 ∷ 0 ∷ 3 ∷ 0 ∷ [])
+    ∷ row (plays empty (hear (address 10 0 0 2) 0 9 12 (packet 900 0 50 10) ∷ sweep 8 ∷ [])) (20 ∷ 0 ∷ 3 ∷ 0 ∷ [])
+    ∷ row (plays empty (hear 20 0 9 11 (packet 900 0 50 10) ∷ sweep 8 ∷ [])) (4 ∷ 0 ∷ 0 ∷ 0 ∷ [])
+    -- 20 before 21 before 23; 22 needs D, the receiving interface's address, a packet sent and its number
+    ∷ row (plays empty (hear (address 10 0 0 1) 0 0 12 echoed ∷ hear (address 10 0 0 255) 0 0 12 echoed ∷ [])) (20 ∷ 0 ∷ 21 ∷ 0 ∷ [])
+    ∷ row (plays empty (hear 30 0 0 12 echoed ∷ hear 30 0 0 12 (packet (address 10 0 0 1) 128 50 5) ∷ hear 30 1 0 12 echoed ∷ [])) (22 ∷ 0 ∷ 23 ∷ 0 ∷ 23 ∷ 0 ∷ [])
+    ∷ row (plays empty (hear 30 0 0 12 (packet (address 10 0 0 1) 64 50 4) ∷ hear 30 1 0 12 (packet (address 10 0 0 2) 64 50 65534) ∷ [])) (23 ∷ 0 ∷ 23 ∷ 0 ∷ [])
+    -- an OGM that is not counted makes no record; an echo makes the link bidirectional
+    ∷ row (plays empty (hear 30 0 0 12 (packet 900 0 50 10) ∷ ask 900 ∷ [])) (25 ∷ 0 ∷ 0 ∷ 0 ∷ 0 ∷ [])
+    ∷ row (plays empty (hear 30 0 0 12 (packet 900 0 50 10) ∷ hear 30 0 0 12 echoed ∷ hear 30 0 0 12 (packet 900 0 50 10) ∷ ask 900 ∷ [])) (25 ∷ 0 ∷ 22 ∷ 0 ∷ 26 ∷ 0 ∷ 0 ∷ 30 ∷ 1 ∷ [])
+    -- an own packet drops the row at distance B; an echo before it resets the distance; another interface's packet drops none
+    ∷ row (plays aged (write 0 0 50 12 [] ∷ hear 20 0 0 12 (packet 900 0 50 10) ∷ [])) (0 ∷ 6 ∷ 25 ∷ 0 ∷ [])
+    ∷ row (plays aged (hear 20 0 0 12 echoed ∷ write 0 0 50 12 [] ∷ hear 20 0 0 12 (packet 900 0 50 10) ∷ [])) (22 ∷ 0 ∷ 0 ∷ 6 ∷ 26 ∷ 0 ∷ [])
+    ∷ row (plays aged (write 1 0 50 12 [] ∷ hear 20 0 0 12 (packet 900 0 50 10) ∷ [])) (0 ∷ 65535 ∷ 26 ∷ 0 ∷ [])
+    -- 9: 31 neighbour rows, and 32 with and without this one
+    ∷ row (plays (crowd 31) (hear 99 0 0 12 echoed ∷ [])) (22 ∷ 0 ∷ [])
+    ∷ row (plays (crowd 32) (hear 99 0 0 12 echoed ∷ hear 20 0 0 12 echoed ∷ [])) (9 ∷ 0 ∷ 22 ∷ 0 ∷ [])
+    -- 10: capacity reached, for a packet that would be counted and needs a record
+    ∷ row (plays (held 1 10 20 ((20, 10 ∷ []) ∷ [])) (hear 20 0 0 12 (packet 901 0 50 11) ∷ hear 20 0 0 12 (packet 900 0 50 11) ∷ [])) (10 ∷ 0 ∷ 26 ∷ 0 ∷ [])
+    ∷ row (plays (held 1 10 20 ((20, 10 ∷ []) ∷ [])) (hear 20 0 0 12 (packet 901 128 50 11) ∷ hear 50 0 0 12 (packet 901 0 50 11) ∷ [])) (24 ∷ 0 ∷ 25 ∷ 0 ∷ [])
+    ∷ row (plays (held 2 10 20 ((20, 10 ∷ []) ∷ [])) (hear 20 0 0 12 (packet 901 0 50 11) ∷ hear 20 0 0 12 (packet 902 0 50 11) ∷ [])) (26 ∷ 0 ∷ 10 ∷ 0 ∷ [])
+    -- 11: a ninth link; it comes in where another loses its last mark and isn't best, and not where that one is best
+    ∷ row (plays (eight 22 (3 ∷ []) (10 ∷ [])) (hear 28 0 0 12 (packet 900 0 50 10) ∷ hear 28 0 0 12 (packet 900 0 50 11) ∷ list 900 (replicate 8 blank) ∷ [])) (11 ∷ 0 ∷ 26 ∷ 0 ∷ 0 ∷ 8 ∷ [])
+    ∷ row (plays (eight 20 (3 ∷ []) (9 ∷ 10 ∷ [])) (hear 28 0 0 12 (packet 900 0 50 11) ∷ [])) (11 ∷ 0 ∷ [])
+    -- list: as many rows as links and one fewer; an unknown originator; the rows whole
+    ∷ row (plays single (list 900 (blank ∷ []) ∷ list 900 [] ∷ list 901 [] ∷ [])) (0 ∷ 1 ∷ 4 ∷ 0 ∷ 0 ∷ 0 ∷ [])
+    ∷ row (leaves (held 64 10 20 ((20, 9 ∷ 10 ∷ []) ∷ (40, 10 ∷ []) ∷ [])) (list 900 (replicate 3 blank)))
+    (20 ∷ 0 ∷ 2 ∷ 8 ∷ 1 ∷ 40 ∷ 0 ∷ 1 ∷ 8 ∷ 0 ∷ 9 ∷ 9 ∷ 9 ∷ 9 ∷ 0 ∷ [])
+    ∷ row (leaves (held 64 10 20 ((20, 9 ∷ 10 ∷ []) ∷ (40, 10 ∷ []) ∷ [])) (list 900 (blank ∷ []))) (9 ∷ 9 ∷ 9 ∷ 9 ∷ 0 ∷ [])
+    ∷ row (leaves (fields 10 0 50 (linkOf 20 1) ((linkOf 20 0, 3) ∷ (linkOf 20 1, 1) ∷ [])) (list 900 (replicate 2 blank)))
+    (20 ∷ 0 ∷ 2 ∷ 8 ∷ 0 ∷ 20 ∷ 1 ∷ 1 ∷ 8 ∷ 1 ∷ [])
+    -- best: 12 via 30 leaves 20 without a mark, and best while 40 stands higher; without 40 it gives up its place
+    ∷ row (plays (held 64 10 20 ((20, 4 ∷ []) ∷ (40, 9 ∷ 10 ∷ []) ∷ [])) (hear 30 0 0 12 (packet 900 0 50 12) ∷ ask 900 ∷ list 900 (replicate 3 blank) ∷ [])) (25 ∷ 0 ∷ 0 ∷ 20 ∷ 0 ∷ 0 ∷ 3 ∷ [])
+    ∷ row (plays (held 64 10 20 ((20, 4 ∷ []) ∷ [])) (hear 30 0 0 12 (packet 900 0 50 12) ∷ ask 900 ∷ list 900 (replicate 3 blank) ∷ [])) (26 ∷ 0 ∷ 0 ∷ 30 ∷ 1 ∷ 0 ∷ 1 ∷ [])
+    -- a duplicate passes with the record's last TTL alone, and leaves it; it is no duplicate on another link
+    ∷ row (plays single (hear 20 0 0 12 (packet 900 0 49 10) ∷ hear 20 0 0 12 (packet 900 0 50 10) ∷ hear 30 0 0 12 (packet 900 0 49 10) ∷ [])) (25 ∷ 0 ∷ 26 ∷ 0 ∷ 26 ∷ 0 ∷ [])
+    -- counting sets it
+    ∷ row (plays single (hear 20 0 0 12 (packet 900 0 49 11) ∷ hear 20 0 0 12 (packet 900 0 50 11) ∷ hear 20 0 0 12 (packet 900 0 49 11) ∷ ask 900 ∷ [])) (26 ∷ 0 ∷ 25 ∷ 0 ∷ 26 ∷ 0 ∷ 0 ∷ 20 ∷ 2 ∷ [])
+    -- distance B - 1 (P11 has B)
+    ∷ row (sends 4 1 65535) (2 ∷ 3 ∷ 1 ∷ [])
+    -- purge: exactly the timeout ago and one more; counting sets the record's time, a duplicate doesn't
+    ∷ row (plays single (sweep 640000 ∷ sweep 640001 ∷ ask 900 ∷ [])) (0 ∷ 0 ∷ 0 ∷ 1 ∷ 0 ∷ 0 ∷ 0 ∷ [])
+    ∷ row (plays single (hear 20 0 5 12 (packet 900 0 50 11) ∷ sweep 640005 ∷ sweep 640006 ∷ [])) (26 ∷ 0 ∷ 0 ∷ 0 ∷ 0 ∷ 1 ∷ [])
+    ∷ row (plays single (hear 20 0 5 12 (packet 900 0 50 10) ∷ sweep 640001 ∷ [])) (26 ∷ 0 ∷ 0 ∷ 1 ∷ [])
+    -- freed room is used again; receiving frees no expired record
+    ∷ row (plays (held 1 10 20 ((20, 10 ∷ []) ∷ [])) (hear 20 0 640001 12 (packet 901 0 50 11) ∷ sweep 640001 ∷ hear 20 0 640001 12 (packet 901 0 50 11) ∷ [])) (10 ∷ 0 ∷ 0 ∷ 1 ∷ 26 ∷ 0 ∷ [])
+    -- well-formed: a time of 64 bits; numbers sent, of interfaces in use, rising
+    ∷ row (formed (record { config = config (settings 8 32 64); time = 18446744073709551615; sends = []; rows = []; records = [] })) (1 ∷ [])
+    ∷ row (formed (record { config = config (settings 8 32 64); time = 18446744073709551616; sends = []; rows = []; records = [] })) (0 ∷ [])
+    ∷ row (formed (sentRows ((0, 65535) ∷ (1, 0) ∷ []) [])) (1 ∷ [])
+    ∷ row (formed (sentRows ((0, 65536) ∷ []) [])) (0 ∷ [])
+    ∷ row (formed (sentRows ((2, 5) ∷ []) [])) (0 ∷ [])
+    ∷ row (formed (sentRows ((1, 5) ∷ (0, 5) ∷ []) [])) (0 ∷ [])
+    -- neighbour rows rise by address, then interface, on interfaces in use that have sent; distance B - 1 and B; 32 and 33 rows
+    ∷ row (formed (sentRows ((0, 5) ∷ (1, 5) ∷ []) ((linkOf 20 0, 5) ∷ (linkOf 20 1, 5) ∷ (linkOf 21 0, 5) ∷ []))) (1 ∷ [])
+    ∷ row (formed (sentRows ((0, 5) ∷ (1, 5) ∷ []) ((linkOf 20 1, 5) ∷ (linkOf 20 0, 5) ∷ []))) (0 ∷ [])
+    ∷ row (formed (sentRows ((0, 5) ∷ []) ((linkOf 20 0, 5) ∷ (linkOf 20 0, 5) ∷ []))) (0 ∷ [])
+    ∷ row (formed (sentRows ((0, 5) ∷ []) ((linkOf 20 1, 5) ∷ []))) (0 ∷ [])
+    ∷ row (formed (sentRows ((0, 5) ∷ []) ((linkOf 20 2, 5) ∷ []))) (0 ∷ [])
+    ∷ row (formed (sentRows ((0, 5) ∷ []) ((linkOf 4294967296 0, 5) ∷ []))) (0 ∷ [])
+    ∷ row (formed (sentRows ((0, 5) ∷ []) ((linkOf 20 0, 65541) ∷ []))) (0 ∷ [])
+    ∷ row (formed (sentRows ((0, 5) ∷ []) ((linkOf 20 0, 65510) ∷ []))) (1 ∷ [])
+    ∷ row (formed (sentRows ((0, 5) ∷ []) ((linkOf 20 0, 65509) ∷ []))) (0 ∷ [])
+    ∷ row (formed (crowd 32)) (1 ∷ [])
+    ∷ row (formed (crowd 33)) (0 ∷ [])
+    -- originators rise, none is an own address, no more are held than the capacity
+    ∷ row (formed (records 2 ((899, one) ∷ (900, one) ∷ []))) (1 ∷ [])
+    ∷ row (formed (records 2 ((900, one) ∷ (899, one) ∷ []))) (0 ∷ [])
+    ∷ row (formed (records 1 ((899, one) ∷ (900, one) ∷ []))) (0 ∷ [])
+    ∷ row (formed (records 0 [])) (0 ∷ [])
+    ∷ row (formed (records 2 ((address 10 0 0 2, one) ∷ []))) (0 ∷ [])
+    ∷ row (formed (records 2 ((4294967296, one) ∷ []))) (0 ∷ [])
+    -- a record's fields in their ranges, its time not after the table's
+    ∷ row (formed (fields 65535 0 255 80 ((80, 255) ∷ []))) (1 ∷ [])
+    ∷ row (formed (fields 65536 0 255 80 ((80, 255) ∷ []))) (0 ∷ [])
+    ∷ row (formed (fields 65535 0 256 80 ((80, 255) ∷ []))) (0 ∷ [])
+    ∷ row (formed (fields 65535 1 255 80 ((80, 255) ∷ []))) (0 ∷ [])
+    -- 1 to 8 links, rising, on interfaces in use; a mark on each or best; best among them; no mark outside the window
+    ∷ row (formed (eight 20 (10 ∷ []) (10 ∷ []))) (1 ∷ [])
+    ∷ row (formed (fields 10 0 50 80 [])) (0 ∷ [])
+    ∷ row (formed (fields 10 0 50 80 (map (λ l. (l * 4, 1)) (upFrom 20 9)))) (0 ∷ [])
+    ∷ row (formed (fields 10 0 50 80 ((84, 1) ∷ (80, 1) ∷ []))) (0 ∷ [])
+    ∷ row (formed (fields 10 0 50 82 ((82, 1) ∷ []))) (0 ∷ [])
+    ∷ row (formed (fields 10 0 50 80 ((80, 0) ∷ (84, 1) ∷ []))) (1 ∷ [])
+    ∷ row (formed (fields 10 0 50 84 ((80, 0) ∷ (84, 1) ∷ []))) (0 ∷ [])
+    ∷ row (formed (fields 10 0 50 81 ((80, 1) ∷ []))) (0 ∷ [])
+    ∷ row (formed (fields 10 0 50 80 ((80, 256) ∷ []))) (0 ∷ [])
+    -- 12: each setting at its least, at its most, one beyond, and 0
+    ∷ row (tried (five 0 1 1 1 1) 1 (1 ∷ [])) (0 ∷ [])
+    ∷ row (tried (five 255 64 1000 4294967295 256) 1 (1 ∷ [])) (0 ∷ [])
+    ∷ row (tried (five 256 64 32 640000 64) 1 (1 ∷ [])) (12 ∷ [])
+    ∷ row (tried (five 4 65 32 640000 64) 1 (1 ∷ [])) (12 ∷ [])
+    ∷ row (tried (five 4 64 1001 640000 64) 1 (1 ∷ [])) (12 ∷ [])
+    ∷ row (tried (five 4 64 32 4294967296 64) 1 (1 ∷ [])) (12 ∷ [])
+    ∷ row (tried (five 4 64 32 640000 257) 1 (1 ∷ [])) (12 ∷ [])
+    ∷ row (tried (five 4 0 32 640000 64) 1 (1 ∷ [])) (12 ∷ [])
+    ∷ row (tried (five 4 64 0 640000 64) 1 (1 ∷ [])) (12 ∷ [])
+    ∷ row (tried (five 4 64 32 0 64) 1 (1 ∷ [])) (12 ∷ [])
+    ∷ row (tried (five 4 64 32 640000 0) 1 (1 ∷ [])) (12 ∷ [])
+    -- 0, 1, 4 and 5 interfaces in use; own addresses that differ only beyond the number in use, or not at all; address 0
+    ∷ row (tried defaults 0 (1 ∷ 2 ∷ 3 ∷ 4 ∷ [])) (12 ∷ [])
+    ∷ row (tried defaults 1 (1 ∷ 2 ∷ 3 ∷ 4 ∷ [])) (0 ∷ [])
+    ∷ row (tried defaults 4 (0 ∷ 2 ∷ 3 ∷ 4 ∷ [])) (0 ∷ [])
+    ∷ row (tried defaults 5 (1 ∷ 2 ∷ 3 ∷ 4 ∷ [])) (12 ∷ [])
+    ∷ row (tried defaults 3 (1 ∷ 2 ∷ 3 ∷ 3 ∷ [])) (0 ∷ [])
+    ∷ row (tried defaults 4 (1 ∷ 2 ∷ 3 ∷ 3 ∷ [])) (12 ∷ [])
+    -- the number of cells, one fewer and one more; a refused make changes nothing
+    ∷ row (makes 1501 (makeArgs defaults 1 (1 ∷ []))) (0 ∷ [])
+    ∷ row (makes 1500 (makeArgs defaults 1 (1 ∷ []))) (12 ∷ [])
+    ∷ row (makes 1502 (makeArgs defaults 1 (1 ∷ []))) (12 ∷ [])
+    ∷ row (plays single (make (makeArgs defaults 1 (1 ∷ [])) ∷ ask 900 ∷ [])) (12 ∷ 0 ∷ 20 ∷ 1 ∷ [])
+    ∷ []

@@ -1,0 +1,174 @@
+-- Document 01, "Checked examples". A row asks a question and gives the answer that is due; one rule, `reply`, answers every question by the
+-- table's words and the calls. P1 to P12 are one table of such rows, the edges of the rules (`Edges`) another.
+use Prim.Native.Nat.{ℕ, _+_, _*_}
+use mathlib.Core.Bool.{Bool, true, false, cond}
+use mathlib.Core.List.{List, [], _∷_, _++_, map}
+use lib.ListN.{length, replicate}
+use Rattle.lists.specs.Lists.{maybe, elem}
+use Rattle.lists.specs.Keyed.{lookup, tabulate}
+use Rattle.window.specs.Window.{distance, inside, count, word, marks}
+use Rattle.wire.specs.Layout.{flagsAt, ttlAt}
+use Rattle.wire.specs.Packet.{octet, header, packetOf}
+use Rattle.wire.specs.Check.{packetCheck}
+use Rattle.rules.specs.declared.Settings.{Settings}
+use Rattle.rules.specs.declared.Interface.{Interface}
+use Rattle.rules.specs.declared.LinkRow.{LinkRow}
+use Rattle.rules.specs.Settings.{MakeArgs, Config}
+use Rattle.rules.specs.Calls.{linkOf, neighbourOf, Answer, made, received, written, swept, asked, listed, Call, make, receive, own}
+use Rattle.rules.specs.Rules.{Words, StateOf, fresh, step}
+use Rattle.rules.specs.Table.{TableRecord, TableState, rowDistance, table}
+use Rattle.rules.specs.WellFormed.{wellFormed}
+
+pub data Ask : Type 0 where
+  -- does n lie inside the window? 1 or 0
+  lies : (W current n : ℕ) → Ask
+  -- is n a duplicate on a link with these marks? 1 or 0
+  again : (W current : ℕ) (marks : List ℕ) (n : ℕ) → Ask
+  -- a record whose links, by neighbour, have these marks; then n arrives through a neighbour that has a row:
+  -- the current number then, the best neighbour, and for each link its neighbour, its count and its marked numbers from the lowest
+  arrives : (W current best : ℕ) (links : List (ℕ × List ℕ)) (neighbour n : ℕ) → Ask
+  -- a packet arrives, and no record is held: the flags and TTL octets of the copy, the verdict, and the flags elsewhere
+  passes : (hasRow : Bool) (sender originator flags ttl : ℕ) → Ask
+  -- an interface that sent n, with a row that recorded m, sends once more: the number it sent last, the row's distance, and how many rows are left
+  sends : (B n m : ℕ) → Ask
+  -- version, TTL, number and originator of a packet
+  reads : (packet : List ℕ) → Ask
+  -- the packet check's answer
+  checks : (version : ℕ) (packet : List ℕ) → Ask
+  -- the answer to a make that is lent so many cells
+  makes : (cells : ℕ) → MakeArgs → Ask
+  -- calls one after the other on a table: what is shown of each answer
+  plays : TableState → List Call → Ask
+  -- what a call leaves in what it was lent: the output's octets, or the fields of each row
+  leaves : TableState → Call → Ask
+  -- is the table well-formed? 1 or 0
+  formed : TableState → Ask
+
+-- ---- the stage of the examples: two interfaces, the first has sent number 5; a packet comes from originator 900, at time 0
+
+abbrev pub address : (a b c d : ℕ) → ℕ
+address a b c d = ((a * 256 + b) * 256 + c) * 256 + d
+
+abbrev pub interface : (own first : ℕ) → Interface
+interface a n = record { own = a; broadcast = address 10 0 0 255; first = n }
+
+abbrev pub settings : (W B capacity : ℕ) → Settings
+settings W B n = record { version = 4; window = W; timeout = B; purge = 640000; capacity = n }
+
+abbrev pub config : Settings → Config
+config σ = record { settings = σ; interfaces = interface (address 10 0 0 1) 1 ∷ interface (address 10 0 0 2) 65535 ∷ [] }
+
+-- these neighbours have rows on the first interface, which recorded its last number
+abbrev pub stage : Settings → (neighbours : List ℕ) → List (ℕ × TableRecord) → TableState
+stage σ ns rs =
+    record { config = config σ; time = 0; sends = (0, 5) ∷ []; rows = tabulate (λ l. 5) (map (λ a. linkOf a 0) ns); records = rs }
+
+-- a record with these marks for each neighbour, counted last at this time with TTL 50
+abbrev pub recordWith : (W current best time : ℕ) → List (ℕ × List ℕ) → TableRecord
+recordWith W c b t ls =
+    record {
+      current = c;
+      time = t;
+      lastTtl = 50;
+      best = linkOf b 0;
+      links = map (λ (e : ℕ × List ℕ). (linkOf (e .0) 0, word W (λ k. elem (distance c k) (e .1)))) ls;
+    }
+
+abbrev pub packet : (originator flags ttl n : ℕ) → List ℕ
+packet o f t n = packetOf (record { version = 4; flags = f; ttl = t; gateway = 0; sequence = n; port = 0; originator = o }) []
+
+abbrev pub hear : (sender interface time room : ℕ) → List ℕ → Call
+hear a i t n p = receive (record { packet = p; sender = a; interface = i; time = t; output = replicate n 0 })
+
+abbrev pub write : (interface time ttl room : ℕ) → (hna : List ℕ) → Call
+write i t l n e = own (record { interface = i; time = t; ttl = l; gateway = 0; port = 0; hna = e; output = replicate n 0 })
+
+abbrev pub linksShown : (W current : ℕ) → List (ℕ × ℕ) → List ℕ
+linksShown W c [] = []
+linksShown W c (e ∷ es) = neighbourOf (e .0) ∷ count (e .1) ∷ (marks W (e .1) c ++ linksShown W c es)
+
+abbrev pub flag : Bool → List ℕ
+flag b = cond b (1 ∷ []) (0 ∷ [])
+
+-- an answer's number, with the place as the packet check carries it, and: the flags elsewhere, an own packet's number, how many records a sweep
+-- removed, a route's neighbour and count, how many rows were filled
+abbrev pub answerShown : Answer → List ℕ
+answerShown (made n) = n ∷ []
+answerShown (received a) = (a .number + 256 * a .place) ∷ a .flags ∷ []
+answerShown (written a) = (a .number + 256 * a .place) ∷ a .sequence ∷ []
+answerShown (swept a) = a .number ∷ a .removed ∷ []
+answerShown (asked a) = a .number ∷ a .route .neighbour ∷ a .route .count ∷ []
+answerShown (listed a) = a .number ∷ a .filled ∷ []
+
+abbrev pub rowsShown : List LinkRow → List ℕ
+rowsShown [] = []
+rowsShown (r ∷ rs) = r .neighbour ∷ r .interface ∷ r .count ∷ r .window ∷ cond (r .best) 1 0 ∷ rowsShown rs
+
+-- calls one after the other on a table of so many cells
+abbrev pub played : (W : Words) (cells : ℕ) → StateOf W → List Call → List ℕ
+played W n s [] = []
+played W n s (c ∷ cs) = answerShown (step W n s c .reply .answer) ++ played W n (step W n s c .state) cs
+
+abbrev pub reply : Ask → List ℕ
+reply (lies W c n) = flag (inside W c n)
+reply (again W c ms n) = flag (table .duplicate (config (settings W 32 64)) (recordWith W c 20 0 ((20, ms) ∷ [])) (linkOf 20 0) n)
+reply (arrives W c b ls a n) =
+    let s = stage (settings W 32 64) (20 ∷ 30 ∷ 40 ∷ []) ((900, recordWith W c b 0 ls) ∷ []) in
+    maybe (lookup 900 (step table 0 s (hear a 0 0 12 (packet 900 0 50 n)) .state .records)) []
+    (λ r. r .current ∷ neighbourOf (r .best) ∷ linksShown W (r .current) (r .links))
+reply (passes b a o f t) =
+    let x = step table 0 (stage (settings 8 32 64) (cond b (a ∷ []) []) []) (hear a 0 0 12 (packet o f t 300)) .reply in
+    octet (x .output) flagsAt ∷ octet (x .output) ttlAt ∷ answerShown (x .answer)
+reply (sends B n m) =
+    let s : TableState = record { config = config (settings 8 B 64); time = 0; sends = (0, n) ∷ []; rows = (linkOf 20 0, m) ∷ []; records = [] } in
+    let t = step table 0 s (write 0 0 50 12 []) .state in
+    maybe (lookup 0 (t .sends)) 0 (λ k. k) ∷ rowDistance (t .config) (t .sends) (linkOf 20 0, m) ∷ length (t .rows) ∷ []
+reply (reads p) = header p .version ∷ header p .ttl ∷ header p .sequence ∷ header p .originator ∷ []
+reply (checks v p) = packetCheck v p ∷ []
+reply (makes n a) = answerShown (step table n (fresh table (config (settings 8 32 64))) (make a) .reply .answer)
+reply (plays s cs) = played table 0 s cs
+reply (formed s) = flag (wellFormed s)
+reply (leaves s c) = let x = step table 0 s c .reply in x .output ++ rowsShown (x .rows)
+
+-- ---- P1 to P12; A is neighbour 20, B is 30, C is 40
+
+pub record Row : Type 0 where
+  pub ask : Ask
+  pub says : List ℕ
+
+abbrev pub row : Ask → List ℕ → Row
+row a s = record { ask = a; says = s }
+
+unfoldable pub examples : List Row
+examples =
+    -- P1
+    row (lies 8 10 3) (1 ∷ [])
+    ∷ row (lies 8 10 2) (0 ∷ [])
+    ∷ row (lies 8 10 11) (0 ∷ [])
+    -- P2
+    ∷ row (lies 8 5 65534) (1 ∷ [])
+    ∷ row (lies 8 5 65533) (0 ∷ [])
+    -- P3
+    ∷ row (arrives 8 10 20 ((20, 3 ∷ 7 ∷ 10 ∷ []) ∷ []) 20 12) (12 ∷ 20 ∷ 20 ∷ 3 ∷ 7 ∷ 10 ∷ 12 ∷ [])
+    -- P4
+    ∷ row (arrives 8 10 20 ((20, 10 ∷ []) ∷ []) 20 17) (17 ∷ 20 ∷ 20 ∷ 2 ∷ 10 ∷ 17 ∷ [])
+    ∷ row (arrives 8 10 20 ((20, 10 ∷ []) ∷ []) 20 18) (18 ∷ 20 ∷ 20 ∷ 1 ∷ 18 ∷ [])
+    -- P5
+    ∷ row (arrives 8 10 20 ((20, 10 ∷ []) ∷ []) 20 2) (2 ∷ 20 ∷ 20 ∷ 1 ∷ 2 ∷ [])
+    -- P6
+    ∷ row (again 1 10 (10 ∷ []) 10) (1 ∷ [])
+    -- P7
+    ∷ row (arrives 8 10 20 ((20, 3 ∷ 4 ∷ 5 ∷ []) ∷ (40, 9 ∷ 10 ∷ []) ∷ []) 30 12)
+    (12 ∷ 20 ∷ 20 ∷ 1 ∷ 5 ∷ 30 ∷ 1 ∷ 12 ∷ 40 ∷ 2 ∷ 9 ∷ 10 ∷ [])
+    -- P8
+    ∷ row (arrives 8 10 20 ((20, 9 ∷ 10 ∷ []) ∷ (40, 9 ∷ []) ∷ []) 40 10) (10 ∷ 40 ∷ 20 ∷ 2 ∷ 9 ∷ 10 ∷ 40 ∷ 2 ∷ 9 ∷ 10 ∷ [])
+    -- P9
+    ∷ row (passes false 900 900 0 50) (192 ∷ 49 ∷ 26 ∷ 0 ∷ [])
+    -- P10
+    ∷ row (passes true 20 900 69 50) (5 ∷ 49 ∷ 26 ∷ 5 ∷ [])
+    -- P11
+    ∷ row (sends 4 2 65535) (3 ∷ 4 ∷ 0 ∷ [])
+    ∷ row (sends 5 2 65535) (3 ∷ 4 ∷ 1 ∷ [])
+    -- P12
+    ∷ row (reads (4 ∷ 0 ∷ 50 ∷ 0 ∷ 1 ∷ 44 ∷ 0 ∷ 0 ∷ 10 ∷ 1 ∷ 0 ∷ 7 ∷ [])) (4 ∷ 50 ∷ 300 ∷ address 10 1 0 7 ∷ [])
+    ∷ []

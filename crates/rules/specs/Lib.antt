@@ -1,0 +1,10 @@
+-- Document 01's rules: settings, calls, the rules once over a reading's words, and the table's reading.
+pub mod Settings
+pub mod Calls
+pub mod Rules
+pub mod Table
+pub mod Refusals
+pub mod WellFormed
+pub mod Promises
+pub mod Examples
+pub mod Edges

@@ -1,0 +1,370 @@
+-- Document 01, "Receiving, in order", "The other calls" and "Numbers for what is turned away", said once.
+-- What the rules ask of a state (duplicate, best, count, neighbour row ..) is a record of words. The table and the book each read them their way.
+use Prim.Native.Nat.{ℕ, _+_, _-_, _%_}
+use mathlib.Core.Bool.{Bool, true, false, _&&_, _||_, not}
+use mathlib.Core.Option.{Option, none, some}
+use mathlib.Core.List.{List, [], _∷_, map}
+use lib.Dec.{ltb, leb, eqb}
+use lib.ListN.{length}
+use Rattle.lists.specs.Lists.{maybe, and, keep, writtenTo}
+use Rattle.lists.specs.Keyed.{lookup, hasKey, put}
+use Rattle.window.specs.Window.{numbers, distance}
+use Rattle.wire.specs.declared.Header.{Header}
+use Rattle.wire.specs.declared.Fault.{Fault}
+use Rattle.wire.specs.Packet.{header, packetOf, isU, isD}
+use Rattle.wire.specs.Check.{given, firstOf, packetFault, writtenFault}
+use Rattle.wire.specs.PassOn.{flagsHere, flagsElsewhere, passedOn}
+use Rattle.rules.specs.declared.Route.{Route}
+use Rattle.rules.specs.declared.LinkRow.{LinkRow}
+use Rattle.rules.specs.Settings.{neighbourMost, linkMost, ttlLeast, MakeArgs, Config, configOf, makeAllowed, interfaceAt, isInUse, isOwn, isBroadcast}
+use Rattle.rules.specs.Calls.{linkOf, neighbourOf, interfaceOf, noRoute, made, received, written, swept, asked, listed, ReceiveArgs, OwnArgs, Call, make, receive, own, sweep, ask, list, Reply, answered, refusal}
+
+-- ---- words
+
+-- a counted OGM: the link that it came by, its number, TTL and time
+pub record Ogm : Type 0 where
+  pub link : ℕ
+  pub sequence : ℕ
+  pub ttl : ℕ
+  pub time : ℕ
+
+-- its number, as two octets have it
+abbrev pub sequenceOf : Ogm → ℕ
+sequenceOf m = m .sequence % numbers
+
+-- a link with count x does not stand higher than one with count y
+unfoldable pub notHigher : Config → (x y : ℕ) → Bool
+notHigher κ x y = leb x y
+
+-- send states: the last sent number under each interface that has sent
+abbrev pub Sends : Type 0
+Sends = List (ℕ × ℕ)
+
+abbrev pub hasSent : Sends → ℕ → Bool
+hasSent ns i = hasKey i ns
+
+-- an interface's last sent number; before its first packet, the one below its first number
+unfoldable pub lastSent : Config → Sends → ℕ → ℕ
+lastSent κ ns i = maybe (lookup i ns) (distance (interfaceAt κ i .first) 1) (λ n. n)
+
+-- an own packet takes the first number, then one more each time modulo 65,536
+unfoldable pub nextNumber : Config → Sends → ℕ → ℕ
+nextNumber κ ns i = maybe (lookup i ns) (interfaceAt κ i .first) (λ n. (n + 1) % numbers)
+
+-- the send states once an interface has sent
+abbrev pub sendOn : Config → Sends → ℕ → Sends
+sendOn κ ns i = put i (nextNumber κ ns i) ns
+
+-- what the rules ask of a table or a book
+pub record Words : Type 1 where
+  -- an originator's record
+  pub Record : Type 0
+  -- the first counted OGM makes it
+  pub first : Config → Ogm → Record
+  -- a further one is counted
+  pub next : Config → Ogm → Record → Record
+  pub time : Record → ℕ
+  pub lastTtl : Record → ℕ
+  -- the number is inside the window and already marked on this link
+  pub duplicate : Config → Record → (link number : ℕ) → Bool
+  pub best : Config → Record → ℕ
+  -- the held links, which have marks or are best, with their counts, rising by pair
+  pub links : Config → Record → List (ℕ × ℕ)
+  -- the neighbour rows
+  pub Rows : Type 0
+  pub noRows : Rows
+  -- the link has one: it is bidirectional
+  pub hasRow : Config → Rows → (link : ℕ) → Bool
+  pub rowsHeld : Config → Rows → ℕ
+  -- the row of a link takes its interface's last sent number, made if absent
+  pub echo : Config → Sends → (link : ℕ) → Rows → Rows
+  -- an interface has sent: its rows whose distance is now B or more are dropped
+  pub sent : Config → Sends → (interface : ℕ) → Rows → Rows
+
+-- ---- states and outcomes
+
+pub record State (Rows Record : Type 0) : Type 0 where
+  pub config : Config
+  pub time : ℕ
+  pub sends : Sends
+  pub rows : Rows
+  -- under each originator held
+  pub records : List (ℕ × Record)
+
+pub record Outcome (Rows Record : Type 0) : Type 0 where
+  pub reply : Reply
+  pub state : State Rows Record
+
+-- the way that a test takes; shut, so that a proof goes into it only where it says so
+unfoldable pub branch : {A : Type 0} → Bool → A → A → A
+branch true x y = x
+branch false x y = y
+
+-- a fault is refused, and without one the call goes on
+unfoldable pub unless : {A : Type 0} → Option Fault → (Fault → A) → A → A
+unless none refuse x = x
+unless (some f) refuse x = refuse f
+
+-- ---- the refusals that rest on arguments, settings and time alone, in ascending order
+
+-- 2, 3, 4 and, of the packet, 5, 6, 7, 8
+abbrev pub receiveFaults : Config → (now : ℕ) → ReceiveArgs → List (Option Fault)
+receiveFaults κ now r =
+    given (not (isInUse κ (r .interface))) 2
+    ∷ given (ltb (r .time) now) 3
+    ∷ given (ltb (length (r .output)) (length (r .packet))) 4
+    ∷ packetFault (κ .settings .version) (r .packet)
+    ∷ []
+
+unfoldable pub receiveFault : Config → (now : ℕ) → ReceiveArgs → Option Fault
+receiveFault κ now r = firstOf (receiveFaults κ now r)
+
+-- 2, 3, 4, of the packet p that would be written 5, 7, 8, and 13
+abbrev pub ownFaults : Config → (now : ℕ) → OwnArgs → (p : List ℕ) → List (Option Fault)
+ownFaults κ now a p =
+    given (not (isInUse κ (a .interface))) 2
+    ∷ given (ltb (a .time) now) 3
+    ∷ given (ltb (length (a .output)) (length p)) 4
+    ∷ writtenFault (a .hna)
+    ∷ given (ltb (a .ttl) ttlLeast) 13
+    ∷ []
+
+unfoldable pub ownFault : Config → (now : ℕ) → OwnArgs → (p : List ℕ) → Option Fault
+ownFault κ now a p = firstOf (ownFaults κ now a p)
+
+-- ---- what a received packet says, h being its header
+
+-- the link that it came by
+abbrev pub linkBy : ReceiveArgs → ℕ
+linkBy r = linkOf (r .sender) (r .interface)
+
+-- sender equals originator
+abbrev pub singleHop : ReceiveArgs → Header → Bool
+singleHop r h = eqb (r .sender) (h .originator)
+
+-- the OGM, as it is counted
+abbrev pub message : ReceiveArgs → Header → Ogm
+message r h = record { link = linkBy r; sequence = h .sequence; ttl = h .ttl; time = r .time }
+
+-- D is set, the originator is the receiving interface's address, that interface has sent, and the number equals its last sent number
+abbrev pub echoTests : Config → Sends → ReceiveArgs → Header → List Bool
+echoTests κ ns r h =
+    isD (h .flags)
+    ∷ eqb (h .originator) (interfaceAt κ (r .interface) .own)
+    ∷ hasSent ns (r .interface)
+    ∷ eqb (h .sequence) (lastSent κ ns (r .interface))
+    ∷ []
+
+abbrev pub isEcho : Config → Sends → ReceiveArgs → Header → Bool
+isEcho κ ns r h = and (echoTests κ ns r h)
+
+-- verdicts 25 and 26: only 26 writes, and only the packet's length; its answer carries the flags octet for the other interfaces
+unfoldable pub conclude : ReceiveArgs → Header → (bidirectional passed : Bool) → Route → Reply
+conclude r h bidirectional true route =
+    record {
+      answer = received (record { number = 26; place = 0; flags = flagsElsewhere (h .flags); route = route });
+      output = writtenTo (passedOn (flagsHere (singleHop r h) bidirectional (h .flags)) (r .packet)) (r .output);
+      rows = [];
+    }
+conclude r h bidirectional false route =
+    record { answer = received (record { number = 25; place = 0; flags = 0; route = route }); output = r .output; rows = [] }
+
+-- ---- the packet that own writes
+
+-- the table's version, a flags octet of 0, the interface's own address as originator, and the given TTL and gateway fields
+abbrev pub ownHeader : Config → Sends → OwnArgs → Header
+ownHeader κ ns a =
+    record {
+      version = κ .settings .version;
+      flags = 0;
+      ttl = a .ttl;
+      gateway = a .gateway;
+      sequence = nextNumber κ ns (a .interface);
+      port = a .port;
+      originator = interfaceAt κ (a .interface) .own;
+    }
+
+-- with the given HNA octets
+abbrev pub ownPacket : Config → Sends → OwnArgs → List ℕ
+ownPacket κ ns a = packetOf (ownHeader κ ns a) (a .hna)
+
+-- ---- the calls, of any reading
+
+module _ (W : Words) where
+  abbrev pub StateOf : Type 0
+  StateOf = State (W .Rows) (W .Record)
+
+  abbrev pub OutcomeOf : Type 0
+  OutcomeOf = Outcome (W .Rows) (W .Record)
+
+  -- a fresh table has time 0, nothing sent, no neighbours and no originators
+  abbrev pub fresh : Config → StateOf
+  fresh κ = record { config = κ; time = 0; sends = []; rows = W .noRows; records = [] }
+
+  -- a refused call changes nothing
+  abbrev pub refuse : Call → StateOf → Fault → OutcomeOf
+  refuse c s f = record { reply = refusal c f; state = s }
+
+  -- a state with another time, and other records, or other numbers and rows
+  abbrev pub withRecords : StateOf → ℕ → List (ℕ × W .Record) → StateOf
+  withRecords s t es = record { config = s .config; time = t; sends = s .sends; rows = s .rows; records = es }
+
+  abbrev pub withRows : StateOf → ℕ → Sends → W .Rows → StateOf
+  withRows s t ns rs = record { config = s .config; time = t; sends = ns; rows = rs; records = s .records }
+
+  abbrev pub withTime : StateOf → ℕ → StateOf
+  withTime s t = withRecords s t (s .records)
+
+  -- ---- the best question and the list call, x being the originator's record, if one is held
+
+  abbrev pub countOf : Config → W .Record → (link : ℕ) → ℕ
+  countOf κ a l = maybe (lookup l (W .links κ a)) 0 (λ n. n)
+
+  -- neighbour, interface, count and W
+  abbrev pub routeOf : Config → Option (W .Record) → Route
+  routeOf κ x =
+      maybe x noRoute (λ a. record {
+        neighbour = neighbourOf (W .best κ a);
+        interface = interfaceOf (W .best κ a);
+        count = countOf κ a (W .best κ a);
+        window = κ .settings .window;
+      })
+
+  -- one row per held link, in table order; an unknown originator has zero links
+  abbrev pub linkRows : Config → Option (W .Record) → List LinkRow
+  linkRows κ x =
+      maybe x [] (λ a. map (λ (e : ℕ × ℕ). record {
+        neighbour = neighbourOf (e .0);
+        interface = interfaceOf (e .0);
+        count = e .1;
+        window = κ .settings .window;
+        best = eqb (e .0) (W .best κ a);
+      }) (W .links κ a))
+
+  unfoldable pub answerBest : StateOf → Option (W .Record) → OutcomeOf
+  answerBest s x = record { reply = answered (asked (record { number = 0; route = routeOf (s .config) x })); state = s }
+
+  -- the rows rs at the start of the caller's
+  unfoldable pub fillRows : StateOf → List LinkRow → (rs : List LinkRow) → OutcomeOf
+  fillRows s lent rs =
+      record { reply = record { answer = listed (record { number = 0; filled = length rs }); output = []; rows = writtenTo rs lent }; state = s }
+
+  -- ---- receiving
+
+  -- verdicts 20 to 24: nothing is written; the route is what the best question would then answer for the packet's originator
+  unfoldable pub verdict : ReceiveArgs → Header → ℕ → StateOf → OutcomeOf
+  verdict r h v s =
+      record {
+        reply =
+            record {
+              answer = received (record { number = v; place = 0; flags = 0; route = routeOf (s .config) (lookup (h .originator) (s .records)) });
+              output = r .output;
+              rows = [];
+            };
+        state = s;
+      }
+
+  -- *passed on*; x is the originator's record as it stands once the packet is counted or not counted
+  abbrev pub isPassedOn : Config → ReceiveArgs → Header → (bidirectional duplicate : Bool) → Option (W .Record) → Bool
+  isPassedOn κ r h bidirectional duplicate x =
+      leb ttlLeast (h .ttl)
+      && (singleHop r h || (bidirectional && maybe x false (λ a. eqb (W .best κ a) (linkBy r) && (not duplicate || eqb (h .ttl) (W .lastTtl a)))))
+
+  -- the record a, after counting, takes its place; 11: more than 8 links would have marks or be best
+  unfoldable pub storeCounted : StateOf → ReceiveArgs → Header → W .Record → OutcomeOf
+  storeCounted s r h a =
+      unless (given (ltb linkMost (length (W .links (s .config) a))) 11)
+      (refuse (receive r) s)
+      (record {
+        reply = conclude r h true (isPassedOn (s .config) r h true false (some a)) (routeOf (s .config) (some a));
+        state = withRecords s (r .time) (put (h .originator) a (s .records));
+      })
+
+  -- the first counted OGM makes the record; 10: capacity is reached
+  unfoldable pub counted : StateOf → ReceiveArgs → Header → Option (W .Record) → OutcomeOf
+  counted s r h none =
+      unless (given (leb (s .config .settings .capacity) (length (s .records))) 10)
+      (refuse (receive r) s)
+      (storeCounted s r h (W .first (s .config) (message r h)))
+  counted s r h (some a) = storeCounted s r h (W .next (s .config) (message r h) a)
+
+  unfoldable pub uncounted : StateOf → ReceiveArgs → Header → (bidirectional duplicate : Bool) → Option (W .Record) → OutcomeOf
+  uncounted s r h bidirectional duplicate x =
+      record {
+        reply = conclude r h bidirectional (isPassedOn (s .config) r h bidirectional duplicate x) (routeOf (s .config) x);
+        state = withTime s (r .time);
+      }
+
+  abbrev pub isDuplicate : Config → ReceiveArgs → Header → Option (W .Record) → Bool
+  isDuplicate κ r h x = maybe x false (λ a. W .duplicate κ a (linkBy r) (sequenceOf (message r h)))
+
+  -- *counted*: the link has a neighbour row and the OGM is no duplicate
+  unfoldable pub decide : StateOf → ReceiveArgs → Header → (bidirectional : Bool) → Option (W .Record) → OutcomeOf
+  decide s r h bidirectional x =
+      let duplicate = isDuplicate (s .config) r h x in
+      branch (bidirectional && not duplicate) (counted s r h x) (uncounted s r h bidirectional duplicate x)
+
+  -- the neighbour row for sender and interface takes this number, made if absent: 22; 9: it needs a row and 32 are held
+  unfoldable pub takeEcho : StateOf → ReceiveArgs → Header → OutcomeOf
+  takeEcho s r h =
+      unless (given (not (W .hasRow (s .config) (s .rows) (linkBy r)) && leb neighbourMost (W .rowsHeld (s .config) (s .rows))) 9)
+      (refuse (receive r) s)
+      (verdict r h 22 (withRows s (r .time) (s .sends) (W .echo (s .config) (s .sends) (linkBy r) (s .rows))))
+
+  -- "Receiving, in order": the first that applies
+  unfoldable pub judge : StateOf → ReceiveArgs → Header → OutcomeOf
+  judge s r h =
+      branch (isOwn (s .config) (r .sender)) (verdict r h 20 (withTime s (r .time)))
+      (branch (isBroadcast (s .config) (r .sender)) (verdict r h 21 (withTime s (r .time)))
+      (branch (isOwn (s .config) (h .originator))
+      (branch (isEcho (s .config) (s .sends) r h) (takeEcho s r h) (verdict r h 23 (withTime s (r .time))))
+      (branch (isU (h .flags)) (verdict r h 24 (withTime s (r .time)))
+      (decide s r h (W .hasRow (s .config) (s .rows) (linkBy r)) (lookup (h .originator) (s .records))))))
+
+  -- ---- own packet and sweep
+
+  -- the packet p at the start of the output; its length and number; rows that are too far back are dropped
+  unfoldable pub send : StateOf → OwnArgs → (p : List ℕ) → OutcomeOf
+  send s a p =
+      let i = a .interface in
+      let ns = sendOn (s .config) (s .sends) i in
+      record {
+        reply =
+            record {
+              answer = written (record { number = 0; place = 0; length = length p; sequence = nextNumber (s .config) (s .sends) i });
+              output = writtenTo p (a .output);
+              rows = [];
+            };
+        state = withRows s (a .time) ns (W .sent (s .config) ns i (s .rows));
+      }
+
+  -- its time is more than the purge timeout ago
+  abbrev pub isExpired : Config → (now : ℕ) → W .Record → Bool
+  isExpired κ now a = ltb (κ .settings .purge) (now - W .time a)
+
+  -- a sweep removes exactly these records and answers how many
+  unfoldable pub purge : StateOf → ℕ → OutcomeOf
+  purge s t =
+      record {
+        reply = answered (swept (record { number = 0; removed = length (keep (λ e. isExpired (s .config) t (e .1)) (s .records)) }));
+        state = withRecords s t (keep (λ e. not (isExpired (s .config) t (e .1))) (s .records));
+      }
+
+  -- ---- a call, on a table of so many cells
+
+  -- make answers 0 and leaves the fresh table
+  abbrev pub begin : MakeArgs → OutcomeOf
+  begin a = record { reply = answered (made 0); state = fresh (configOf a) }
+
+  unfoldable pub step : (cells : ℕ) → StateOf → Call → OutcomeOf
+  step cells s (make a) = unless (given (not (makeAllowed cells a)) 12) (refuse (make a) s) (begin a)
+  step cells s (receive r) = unless (receiveFault (s .config) (s .time) r) (refuse (receive r) s) (judge s r (header (r .packet)))
+  step cells s (own a) =
+      let p = ownPacket (s .config) (s .sends) a in
+      unless (ownFault (s .config) (s .time) a p) (refuse (own a) s) (send s a p)
+  step cells s (sweep t) = unless (given (ltb t (s .time)) 3) (refuse (sweep t) s) (purge s t)
+  step cells s (ask o) = answerBest s (lookup o (s .records))
+  step cells s (list o lent) =
+      let rs = linkRows (s .config) (lookup o (s .records)) in
+      -- fewer rows than links
+      unless (given (ltb (length lent) (length rs)) 4) (refuse (list o lent) s) (fillRows s lent rs)

@@ -1,0 +1,159 @@
+-- Document 01, "Settings and sizes": limits, settings, interface rows, and how many cells a table needs.
+use Prim.Native.Nat.{ℕ, _+_, _*_}
+use mathlib.Core.Bool.{Bool, true, _&&_, not}
+use mathlib.Core.List.{List, [], _∷_, map}
+use lib.Dec.{ltb, leb, eqb}
+use lib.ListN.{length, getD, take}
+use Rattle.lists.specs.Lists.{and, all, elem}
+use Rattle.window.specs.Window.{numbers}
+use Rattle.rules.specs.declared.Settings.{Settings}
+use Rattle.rules.specs.declared.Interface.{Interface}
+
+-- ---- limits
+
+abbrev pub versionMost : ℕ
+versionMost = 255
+
+abbrev pub windowMost : ℕ
+windowMost = 64
+
+abbrev pub timeoutMost : ℕ
+timeoutMost = 1000
+
+abbrev pub purgeMost : ℕ
+purgeMost = 4294967295
+
+abbrev pub capacityMost : ℕ
+capacityMost = 256
+
+abbrev pub interfaceMost : ℕ
+interfaceMost = 4
+
+abbrev pub neighbourMost : ℕ
+neighbourMost = 32
+
+-- links of one originator
+abbrev pub linkMost : ℕ
+linkMost = 8
+
+-- the least TTL of a packet that is passed on or written
+abbrev pub ttlLeast : ℕ
+ttlLeast = 2
+
+-- ---- ranges of values: an octet, an address of four octets, a sequence number of two, a time of 64 bits
+
+abbrev pub isOctet : ℕ → Bool
+isOctet n = ltb n 256
+
+abbrev pub isAddress : ℕ → Bool
+isAddress n = ltb n 4294967296
+
+abbrev pub isNumber : ℕ → Bool
+isNumber n = ltb n numbers
+
+abbrev pub isTime : ℕ → Bool
+isTime n = ltb n 18446744073709551616
+
+abbrev pub within : (low high n : ℕ) → Bool
+within low high n = leb low n && leb n high
+
+-- ---- settings and interfaces
+
+abbrev pub defaults : Settings
+defaults = record { version = 4; window = 64; timeout = 32; purge = 640000; capacity = 64 }
+
+-- what make is given: settings, the fixed row of four interfaces, and the number in use
+pub record MakeArgs : Type 0 where
+  pub settings : Settings
+  pub rows : List Interface
+  pub used : ℕ
+
+-- what a table is made with: settings, and the interfaces in use, numbered from 0
+pub record Config : Type 0 where
+  pub settings : Settings
+  pub interfaces : List Interface
+
+-- rows beyond the number in use are ignored
+abbrev pub configOf : MakeArgs → Config
+configOf a = record { settings = a .settings; interfaces = take (a .used) (a .rows) }
+
+-- the interface of a number
+abbrev pub interfaceAt : Config → ℕ → Interface
+interfaceAt κ i = getD (κ .interfaces) i (record { own = 0; broadcast = 0; first = 0 })
+
+abbrev pub isInUse : Config → ℕ → Bool
+isInUse κ i = ltb i (length (κ .interfaces))
+
+abbrev pub ownAddresses : Config → List ℕ
+ownAddresses κ = map (λ i. i .own) (κ .interfaces)
+
+abbrev pub isOwn : Config → ℕ → Bool
+isOwn κ a = elem a (ownAddresses κ)
+
+abbrev pub isBroadcast : Config → ℕ → Bool
+isBroadcast κ a = elem a (map (λ i. i .broadcast) (κ .interfaces))
+
+-- no number stands twice
+abbrev pub differ : List ℕ → Bool
+differ [] = true
+differ (x ∷ xs) = not (elem x xs) && differ xs
+
+abbrev pub interfaceTests : Interface → List Bool
+interfaceTests i = isAddress (i .own) ∷ isAddress (i .broadcast) ∷ isNumber (i .first) ∷ []
+
+abbrev pub configTests : Config → List Bool
+configTests κ =
+    within 0 versionMost (κ .settings .version)
+    ∷ within 1 windowMost (κ .settings .window)
+    ∷ within 1 timeoutMost (κ .settings .timeout)
+    ∷ within 1 purgeMost (κ .settings .purge)
+    ∷ within 1 capacityMost (κ .settings .capacity)
+    ∷ within 1 interfaceMost (length (κ .interfaces))
+    ∷ all (λ i. and (interfaceTests i)) (κ .interfaces)
+    ∷ differ (ownAddresses κ)
+    ∷ []
+
+unfoldable pub allowed : Config → Bool
+allowed κ = and (configTests κ)
+
+-- ---- cells, by the table's layout
+
+-- the five settings, the number in use, the time, and how many neighbour rows and originators are held
+abbrev pub headCells : ℕ
+headCells = 9
+
+-- own address, broadcast address, first number, whether it has sent, last sent number
+abbrev pub interfaceCells : ℕ
+interfaceCells = 5
+
+-- the pair and the recorded number
+abbrev pub neighbourCells : ℕ
+neighbourCells = 2
+
+-- address, current number, time, last TTL, how many links are held, the best link's pair
+abbrev pub recordHeadCells : ℕ
+recordHeadCells = 6
+
+-- the pair and the word of marks
+abbrev pub linkCells : ℕ
+linkCells = 2
+
+abbrev pub tableHead : ℕ
+tableHead = headCells + interfaceMost * interfaceCells + neighbourMost * neighbourCells
+
+abbrev pub recordCells : ℕ
+recordCells = recordHeadCells + linkMost * linkCells
+
+unfoldable pub cellsNeeded : (capacity : ℕ) → ℕ
+cellsNeeded capacity = tableHead + capacity * recordCells
+
+-- what make asks, lent so many cells; 12 is given where one of it fails
+abbrev pub makeTests : (cells : ℕ) → MakeArgs → List Bool
+makeTests cells a =
+    allowed (configOf a)
+    ∷ within 1 interfaceMost (a .used)
+    ∷ eqb cells (cellsNeeded (a .settings .capacity))
+    ∷ []
+
+unfoldable pub makeAllowed : (cells : ℕ) → MakeArgs → Bool
+makeAllowed cells a = and (makeTests cells a)

@@ -1,0 +1,101 @@
+-- The table's words: a record with a word of marks for each held link, and a recorded number for each neighbour row.
+use Prim.Native.Nat.{ℕ}
+use mathlib.Core.Bool.{Bool, cond, _&&_, _||_, not}
+use mathlib.Core.List.{List, []}
+use lib.Dec.{ltb, eqb}
+use lib.ListN.{length}
+use Rattle.lists.specs.Lists.{maybe, keep, all}
+use Rattle.lists.specs.Keyed.{lookup, hasKey, put, mapValues}
+use Rattle.window.specs.Window.{distance, inside, advance, marked, shift, mark, count, hasMark}
+use Rattle.rules.specs.Settings.{Config}
+use Rattle.rules.specs.Calls.{interfaceOf}
+use Rattle.rules.specs.Rules.{Ogm, sequenceOf, notHigher, Sends, lastSent, Words, State}
+
+-- ---- records
+
+pub record TableRecord : Type 0 where
+  pub current : ℕ
+  pub time : ℕ
+  pub lastTtl : ℕ
+  pub best : ℕ
+  -- under each held link its word of marks
+  pub links : List (ℕ × ℕ)
+
+abbrev pub marksAt : List (ℕ × ℕ) → (link : ℕ) → ℕ
+marksAt ls l = maybe (lookup l ls) 0 (λ v. v)
+
+-- no other link has a higher count than link l with the word v
+abbrev pub isHighest : Config → (l v : ℕ) → List (ℕ × ℕ) → Bool
+isHighest κ l v ls = all (λ (e : ℕ × ℕ). eqb (e .0) l || notHigher κ (count (e .1)) (count v)) ls
+
+-- the record with current c and the links ls, this link with its word v among them: this link is best if no other then has a higher count,
+-- otherwise best stays at b, even with count 0; a link with no mark that isn't best gives up its place
+abbrev pub settle : Config → Ogm → (c b v : ℕ) → List (ℕ × ℕ) → TableRecord
+settle κ m c b v ls =
+    let t = cond (isHighest κ (m .link) v ls) (m .link) b in
+    record {
+      current = c;
+      time = m .time;
+      lastTtl = m .ttl;
+      best = t;
+      links = keep (λ (e : ℕ × ℕ). hasMark (e .1) || eqb (e .0) t) ls;
+    }
+
+-- the number is marked on its link
+abbrev pub markOn : Config → Ogm → (c b : ℕ) → List (ℕ × ℕ) → TableRecord
+markOn κ m c b ls =
+    let v = mark (marksAt ls (m .link)) (distance c (sequenceOf m)) in
+    settle κ m c b v (put (m .link) v ls)
+
+unfoldable pub firstRecord : Config → Ogm → TableRecord
+firstRecord κ m = markOn κ m (sequenceOf m) (m .link) []
+
+-- a new number becomes current, and numbers no longer inside are forgotten on every link
+unfoldable pub nextRecord : Config → Ogm → TableRecord → TableRecord
+nextRecord κ m r =
+    let c = advance (κ .settings .window) (r .current) (sequenceOf m) in
+    markOn κ m c (r .best) (mapValues (shift (κ .settings .window) (distance c (r .current))) (r .links))
+
+unfoldable pub isMarked : Config → TableRecord → (link number : ℕ) → Bool
+isMarked κ r l n = inside (κ .settings .window) (r .current) n && marked (marksAt (r .links) l) (r .current) n
+
+-- ---- neighbour rows
+
+-- the number recorded under each link
+abbrev pub TableRows : Type 0
+TableRows = List (ℕ × ℕ)
+
+unfoldable pub recordEcho : Config → Sends → (link : ℕ) → TableRows → TableRows
+recordEcho κ ns l rs = put l (lastSent κ ns (interfaceOf l)) rs
+
+-- last sent number minus recorded number modulo 65,536
+abbrev pub rowDistance : Config → Sends → ℕ × ℕ → ℕ
+rowDistance κ ns e = distance (lastSent κ ns (interfaceOf (e .0))) (e .1)
+
+unfoldable pub dropOld : Config → Sends → (interface : ℕ) → TableRows → TableRows
+dropOld κ ns i rs = keep (λ (e : ℕ × ℕ). not (eqb (interfaceOf (e .0)) i) || ltb (rowDistance κ ns e) (κ .settings .timeout)) rs
+
+-- ---- the table
+
+abbrev pub table : Words
+table =
+    record {
+      Record = TableRecord;
+      first = firstRecord;
+      next = nextRecord;
+      time = λ r. r .time;
+      lastTtl = λ r. r .lastTtl;
+      duplicate = isMarked;
+      best = λ κ r. r .best;
+      links = λ κ r. mapValues count (r .links);
+      Rows = TableRows;
+      noRows = [];
+      hasRow = λ κ rs l. hasKey l rs;
+      rowsHeld = λ κ rs. length rs;
+      echo = recordEcho;
+      sent = dropOld;
+    }
+
+-- a table as the calls read it
+abbrev pub TableState : Type 0
+TableState = State TableRows TableRecord

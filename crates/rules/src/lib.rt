@@ -1,0 +1,83 @@
+// The plain structs that the calls take and answer. The definitions in specs/ see them as records, so rules and code share one type.
+
+// The settings of a table. They are wide, so that values that are not allowed can be given and refused.
+#[repr(C)]
+pub struct Settings {
+    // The packet version.
+    pub version: u64,
+    // The window size W, in sequence numbers.
+    pub window: u64,
+    // The link timeout B, in own messages.
+    pub timeout: u64,
+    // The purge timeout, in milliseconds.
+    pub purge: u64,
+    // How many originators are held.
+    pub capacity: u64,
+}
+
+// An interface row: own address, broadcast address, first sequence number.
+#[repr(C)]
+pub struct Interface {
+    pub own: u32,
+    pub broadcast: u32,
+    pub first: u16,
+}
+
+// What the best question answers. No route is all zeros.
+#[repr(C)]
+pub struct Route {
+    pub neighbour: u32,
+    pub interface: u32,
+    pub count: u32,
+    pub window: u32,
+}
+
+// A row of the list call: one held link.
+#[repr(C)]
+pub struct LinkRow {
+    pub neighbour: u32,
+    pub interface: u32,
+    pub count: u32,
+    pub window: u32,
+    pub best: bool,
+}
+
+// The answer to a received packet: a refusal or verdict, the place that 8 carries, the flags octet for the other
+// interfaces, and the route of the packet's originator.
+#[repr(C)]
+pub struct Received {
+    pub number: u64,
+    pub place: u64,
+    pub flags: u8,
+    pub route: Route,
+}
+
+// The answer to an own packet: its length and sequence number.
+#[repr(C)]
+pub struct Written {
+    pub number: u64,
+    pub place: u64,
+    pub length: u64,
+    pub sequence: u16,
+}
+
+// The answer to a sweep: how many records were removed.
+#[repr(C)]
+pub struct Swept {
+    pub number: u64,
+    pub removed: u64,
+}
+
+// The answer to the best question.
+#[repr(C)]
+pub struct Asked {
+    pub number: u64,
+    pub route: Route,
+}
+
+// The answer to the list call: how many rows were filled.
+#[repr(C)]
+pub struct Listed {
+    pub number: u64,
+    pub filled: u64,
+}
