@@ -1,0 +1,9 @@
+pub mod Bools
+pub mod Areas
+pub mod Trips
+pub mod Pairs
+pub mod Moves
+pub mod Lent
+pub mod Keys
+pub mod Search
+pub mod Compact

@@ -1,0 +1,120 @@
+-- A turn of the loops that write cells, and what two of them leave together, as equations of lists. Assumes nothing.
+use mathlib.Core.Path.{_≡_, sym, ap, _∙_}
+use mathlib.Core.List.{List, [], _∷_, _++_, append-nil}
+use Prim.Native.Nat.{ℕ, suc, _+_, _-_, _≤_, _<_}
+use native.Mathlib.Nat.{sub-self, zero-add}
+use native.Mathlib.Omega.{arith}
+use native.Mathlib.Numerals.{add-one}
+use borrow.Rule.Slice.PartMut.{putMid}
+use lib.ListN.{length, take, drop, set, getD, length-append, length-drop, List·getD-append}
+use lib.Seq.{take-suc, drop-cons, append-snoc, set-at, length-take-le, getD-take, getD-drop, take-length, take-at, drop-at, take-append-le, paste, paste-suc, length-paste-head, getD-append-add, take-all, take-take, drop-length}
+use Rattle.cells.specs.Area.{fit, zeros, written, movedUp, putIn, takenOut}
+use Rattle.cells.proofs.Areas.{fit-at, fit-zeros, length-fit, getD-fit}
+use Rattle.cells.proofs.Lent.{tail-length, tail-back}
+
+-- ---- a copy, turn by turn: `paste c at s j` has the first j cells of s over those of c from `at` on
+
+pub paste-turn : (c x s : List ℕ) (at j v : ℕ) → x ≡ paste c at s j → v ≡ getD s j 0 → at + j < length c → j < length s → set x (at + j) v ≡ paste c at s (j + 1)
+paste-turn c x s at j v e ev hc hs = (λ i. set (e i) (at + j) (ev i)) ∙ paste-suc c at s j 0 hc hs ∙ ap (paste c at s) (sym (add-one j))
+
+pub paste-done : (c s : List ℕ) (at j : ℕ) → j ≡ length s → paste c at s j ≡ written c at s
+paste-done c s at j e = ap (paste c at s) e ∙ ap (λ (l : List ℕ). take at c ++ l ++ drop (at + length s) c) (take-length s)
+
+-- zeros over all cells
+pub zeros-turn : (c x : List ℕ) (i : ℕ) → x ≡ paste c 0 (zeros (length c)) i → i < length c → set x i 0 ≡ paste c 0 (zeros (length c)) (i + 1)
+zeros-turn c x i e h =
+    let n = length c in
+    ap (λ (k : ℕ). set x k 0) (sym (zero-add i)) ∙ paste-turn c x (zeros n) 0 i 0 e (sym (getD-fit n [] i h)) (omega arith) (rw (length-fit n []) h)
+
+pub zeros-done : (c : List ℕ) (i : ℕ) → i ≡ length c → paste c 0 (zeros (length c)) i ≡ zeros (length c)
+zeros-done c i e =
+    let z : List ℕ = zeros (length c) in
+    let k : 0 + i ≡ length c = omega arith in
+    (λ j. take-all i z (rw (length-fit (length c) []) (omega arith)) j ++ drop (k j) c) ∙ ap (λ (l : List ℕ). z ++ l) (drop-length c) ∙ append-nil z
+
+-- a cell that the copy has not reached is as it was
+pub paste-ahead : (c s : List ℕ) (at j k : ℕ) → at + j ≤ k → k < length c → j ≤ length s → getD (paste c at s j) k 0 ≡ getD c k 0
+paste-ahead c s at j k h hk hs =
+    let p : List ℕ = take at c ++ take j s in
+    let lp : length p ≡ at + j = length-paste-head c at s j (omega arith) hs in
+    let e : k ≡ length p + (k - (at + j)) = omega arith in
+    let g : at + j + (k - (at + j)) ≡ k = omega arith in
+    ap (λ (n : ℕ). getD (p ++ drop (at + j) c) n 0) e ∙ getD-append-add p (drop (at + j) c) (k - (at + j)) 0
+    ∙ getD-drop (at + j) c (k - (at + j)) 0 ∙ ap (λ (n : ℕ). getD c n 0) g
+
+-- ---- moving down: the cells that are moved
+
+abbrev pub source : List ℕ → ℕ → ℕ → List ℕ
+source c from w = take w (drop from c)
+
+pub length-source : (c : List ℕ) (from w : ℕ) → from + w ≤ length c → length (source c from w) ≡ w
+length-source c from w h = length-take-le w (drop from c) (rw (length-drop from c) (omega arith))
+
+pub down-cell : (c : List ℕ) (from to w j : ℕ) → to ≤ from → from + w ≤ length c → j < w → getD (paste c to (source c from w) j) (from + j) 0 ≡ getD (source c from w) j 0
+down-cell c from to w j ht hf hj =
+    paste-ahead c (source c from w) to j (from + j) (omega arith) (omega arith) (rw (length-source c from w hf) (omega arith))
+    ∙ sym (getD-take w (drop from c) j 0 hj ∙ getD-drop from c j 0)
+
+-- ---- moving up: what the cells are once those from k on have come up by w
+
+abbrev pub upTo : List ℕ → ℕ → ℕ → List ℕ
+upTo c w k = take k c ++ fit (length c - k) (drop (k - w) c)
+
+pub up-start : (c : List ℕ) (w : ℕ) → c ≡ upTo c w (length c)
+up-start c w = rw (sub-self (length c), take-length c, append-nil c)
+
+up-suc : (c : List ℕ) (w k : ℕ) → w ≤ k → k < length c → set (upTo c w (suc k)) k (getD (upTo c w (suc k)) (k - w) 0) ≡ upTo c w k
+up-suc c w k hw h =
+    let t : List ℕ = fit (length c - suc k) (drop (suc k - w) c) in
+    let v : getD (upTo c w (suc k)) (k - w) 0 ≡ getD c (k - w) 0 =
+    List·getD-append (take (suc k) c) t 0 (k - w) (rw (length-take-le (suc k) c h) (omega arith)) ∙ getD-take (suc k) c (k - w) 0 (omega arith) in
+    let e : upTo c w (suc k) ≡ take k c ++ (getD c k 0 ∷ t) = ap (λ (l : List ℕ). l ++ t) (take-suc c k 0 h) ∙ append-snoc (take k c) (getD c k 0) t in
+    let n : length c - k ≡ suc (length c - suc k) = omega arith in
+    let m : suc k - w ≡ suc (k - w) = omega arith in
+    let r : fit (length c - k) (drop (k - w) c) ≡ getD c (k - w) 0 ∷ t = rw (n, drop-cons c (k - w) 0 (omega arith), m) in
+    ap (λ (x : ℕ). set (upTo c w (suc k)) k x) v
+    ∙ ap (λ (l : List ℕ). set l k (getD c (k - w) 0)) e
+    ∙ set-at (take k c) (getD c k 0) t (getD c (k - w) 0) k (length-take-le k c (omega arith))
+    ∙ ap (λ (l : List ℕ). take k c ++ l) (sym r)
+
+pub up-turn : (c x : List ℕ) (w k : ℕ) → x ≡ upTo c w k → w < k → k ≤ length c → set x (k - 1) (getD x (k - 1 - w) 0) ≡ upTo c w (k - 1)
+up-turn c x w k e hw h =
+    let s : k ≡ suc (k - 1) = omega arith in
+    ap (λ (l : List ℕ). set l (k - 1) (getD l (k - 1 - w) 0)) (e ∙ ap (upTo c w) s) ∙ up-suc c w (k - 1) (omega arith) (omega arith)
+
+split-up : (c : List ℕ) (at w : ℕ) → at + w ≤ length c → movedUp c at w ≡ take (at + w) c ++ fit (length c - (at + w)) (drop at c)
+split-up c at w h = fit-at (length c) (length c - (at + w)) (take (at + w) c) (drop at c) (rw (length-take-le (at + w) c h) (omega arith))
+
+pub up-done : (c : List ℕ) (at w k : ℕ) → at + w ≤ length c → k ≡ at + w → upTo c w k ≡ movedUp c at w
+up-done c at w k h e =
+    let s : at + w - w ≡ at = omega arith in
+    ap (upTo c w) e ∙ ap (λ (i : ℕ). take (at + w) c ++ fit (length c - (at + w)) (drop i c)) s ∙ sym (split-up c at w h)
+
+-- ---- two moves together
+
+-- moved up, then the row written over
+pub put-done : (c row x y : List ℕ) (at : ℕ) → at + length row ≤ length c → x ≡ movedUp c at (length row) → y ≡ written x at row → y ≡ putIn c at row
+put-done c row x y at h ex ey =
+    let m : ℕ = at + length row in
+    let t : List ℕ = fit (length c - m) (drop at c) in
+    let e : x ≡ take m c ++ t = ex ∙ split-up c at (length row) h in
+    let lm : length (take m c) ≡ m = length-take-le m c h in
+    let a : take at x ≡ take at c = ap (take at) e ∙ take-append-le at (take m c) t (omega arith) ∙ take-take at m c (omega arith) in
+    let b : drop m x ≡ t = ap (drop m) e ∙ drop-at (take m c) t m lm in
+    let n : length c ≡ length (take at c ++ row) + (length c - m) = rw (length-append (take at c) row, length-take-le at c (omega arith)) (omega arith) in
+    ey ∙ (λ i. a i ++ row ++ b i) ∙ sym (fit-at (length c) (length c - m) (take at c ++ row) (drop at c) n)
+
+-- moved down, then the last w cells cleared
+pub take-done : (c x ys : List ℕ) (at w : ℕ) → at + w ≤ length c → length x ≡ length c → x ≡ written c at (source c (at + w) (length c - w - at))
+    → ys ≡ zeros (length (take (length x - (length c - w)) (drop (length c - w) x))) → putMid (length c - w) (length x - (length c - w)) x ys ≡ takenOut c at w
+take-done c x ys at w h lx ex ey =
+    let end : ℕ = length c - w in
+    let s : List ℕ = drop (at + w) c in
+    let ls : length s ≡ length c - (at + w) = length-drop (at + w) c in
+    let lt : length (take at c) ≡ at = length-take-le at c (omega arith) in
+    let f : length (take at c ++ s) ≡ end = rw (length-append (take at c) s, lt, ls) (omega arith) in
+    let a : x ≡ take at c ++ s ++ drop (at + length s) c = ex ∙ ap (written c at) (take-all (end - at) s (omega arith)) in
+    let b : take end x ≡ take at c ++ s = ap (take end) a ∙ take-at (take at c ++ s) (drop (at + length s) c) end f in
+    let k : length (take (length x - end) (drop end x)) ≡ w = tail-length x end ∙ (omega arith) in
+    let z : ys ≡ zeros w = ey ∙ ap zeros k in
+    tail-back x end ys (omega arith) ∙ (λ i. b i ++ z i) ∙ sym (fit-zeros (length c) w (take at c ++ s) (omega arith))

@@ -1,0 +1,57 @@
+use borrow.Author.Needs.{needs}
+use mathlib.Core.Path.{_≡_, refl, sym, ap, _∙_}
+use Prim.Native.Nat.{ℕ, _+_, _-_, _≤_}
+use native.Mathlib.Omega.{arith}
+use lib.ListN.{length, getD, length-set}
+use lib.Seq.{paste, paste-zero}
+use mathlib.Core.List.{List}
+use Rattle.cells.proofs.Moves.{paste-turn, paste-done, source, length-source, down-cell}
+use Rattle.cells.proofs.move_down.Statement.{statement}
+use Rattle.cells.proofs.move_down.Tie as tie
+
+abbrev Inv-loop : tie.InvT-loop
+Inv-loop cells₀ from to w j₀ cells j = (j ≤ w) × (length cells ≡ length cells₀) × (cells ≡ paste cells₀ to (source cells₀ from w) j)
+
+abbrev μ-loop : tie.MeasureT-loop
+μ-loop cells₀ from to w j₀ cells j = w - j
+
+loop-holds : tie.Need-loop-holds Inv-loop μ-loop
+loop-holds c =
+    let a = c .args in
+    (omega arith, refl, paste-zero (a .cells .now) (a .to) (source (a .cells .now) (a .from) (a .w)))
+
+loop-again : tie.Need-loop-again Inv-loop μ-loop
+loop-again c =
+    let l = c .before .before .loop in
+    let a = c .before .before .before .args in
+    let s = source (a .cells .now) (a .from) (a .w) in
+    let v = ap (λ (x : List ℕ). getD x (a .from + l .j) 0) (l .inv .2) ∙ down-cell (a .cells .now) (a .from) (a .to) (a .w) (l .j) (omega arith) (omega arith) (omega arith) in
+    (omega arith, simp length-set (l .inv .1), paste-turn (a .cells .now) (l .cells) s (a .to) (l .j) _ (l .inv .2) v (omega arith) (rw (length-source (a .cells .now) (a .from) (a .w) (omega arith)) (omega arith)))
+
+same-length : tie.Need-same-length Inv-loop μ-loop
+same-length c = c .before .loop .inv .1
+
+returns : tie.Need-returns Inv-loop μ-loop
+returns c =
+    let a = c .before .before .args in
+    let s = source (a .cells .now) (a .from) (a .w) in
+    c .before .loop .inv .2 ∙ paste-done (a .cells .now) s (a .to) (c .before .loop .j) (sym (length-source (a .cells .now) (a .from) (a .w) (omega arith) ∙ (omega arith)))
+
+pub move-down-spec : {M : Type 1} → statement M
+move-down-spec =
+    tie.close
+    (tie.spec
+    Inv-loop
+    μ-loop
+    loop-holds
+    (λ c. search needs)
+    (λ c. search needs)
+    (λ c. search needs)
+    (λ c. search needs)
+    (λ c. search needs)
+    (λ c. search needs)
+    (λ c. search needs)
+    (λ c. search needs)
+    loop-again
+    same-length
+    returns)

@@ -1,0 +1,138 @@
+// Rows in lent cells, for any width: found, put in, taken out, written over, moved and tested.
+// Nothing here knows what a row means; the contracts speak of lists of cells alone.
+ghost use mathlib.Core.Path.{_≡_};
+ghost use Prim.Native.Nat.{_+_, _*_, _≤_, _<_};
+ghost use lib.ListN.{length, take, drop};
+ghost use Rattle.cells.specs.Area.{zeros, written, movedUp, putIn, takenOut, allZero, column, rise};
+ghost use Rattle.cells.specs.Find.{Sorted, FoundIn};
+
+// Where a key stands among rows that rise by their keys, or the place where its row would go.
+pub enum Found {
+    At(usize),
+    Place(usize),
+}
+
+// Finds a key among the first n rows of w cells, by halving: the keys before `low` are below it, those from `high` on are not.
+pub fn find(cells: &[u64], w: usize, n: usize, key: u64) -> Found
+    requires { ⌜ Sorted w n (now cells) ⌝ }
+    ensures { λ r. ⌜ FoundIn (column w n (now (cells .entry))) key r ⌝ }
+{
+    let mut low = 0;
+    let mut high = n;
+    while low < high {
+        let middle = low + (high - low) / 2;
+        if cells[middle * w] < key {
+            low = middle + 1;
+        } else {
+            high = middle;
+        }
+    }
+    if low < n {
+        if cells[low * w] == key {
+            return Found::At(low);
+        }
+    }
+    Found::Place(low)
+}
+
+// Whether the keys of the first n rows of w cells rise strictly.
+pub fn keys_rise(cells: &[u64], w: usize, n: usize) -> bool
+    requires { ⌜ (n * w ≤ length (now cells)) × (0 < w) ⌝ }
+    ensures { λ r. ⌜ r ≡ rise (column w n (now (cells .entry))) ⌝ }
+{
+    if n == 0 {
+        return true;
+    }
+    let mut at = 0;
+    let mut left = n - 1;
+    while 0 < left {
+        let next = at + w;
+        if cells[next] <= cells[at] {
+            break;
+        }
+        at = next;
+        left -= 1;
+    }
+    left == 0
+}
+
+// Whether every cell is zero.
+pub fn all_zero(cells: &[u64]) -> bool
+    ensures { λ r. ⌜ r ≡ allZero (now (cells .entry)) ⌝ }
+{
+    let mut i = 0;
+    while i < cells.len() {
+        if cells[i] != 0 {
+            break;
+        }
+        i += 1;
+    }
+    i == cells.len()
+}
+
+// Fills the cells with zeros.
+pub fn clear(cells: &mut [u64])
+    ensures { λ _. ⌜ now (cells .exit) ≡ zeros (length (now (cells .entry))) ⌝ }
+{
+    let mut i = 0;
+    while i < cells.len() {
+        cells[i] = 0;
+        i += 1;
+    }
+}
+
+// Writes a row over the cells from `at` on.
+pub fn write(cells: &mut [u64], at: usize, row: &[u64])
+    requires { ⌜ at + length (now row) ≤ length (now cells) ⌝ }
+    ensures { λ _. ⌜ now (cells .exit) ≡ written (now (cells .entry)) at (now (row .entry)) ⌝ }
+{
+    let mut j = 0;
+    while j < row.len() {
+        cells[at + j] = row[j];
+        j += 1;
+    }
+}
+
+// Moves w cells down, from one place to a lower one; the two may overlap.
+pub fn move_down(cells: &mut [u64], from: usize, to: usize, w: usize)
+    requires { ⌜ (to ≤ from) × (from + w ≤ length (now cells)) ⌝ }
+    ensures { λ _. ⌜ now (cells .exit) ≡ written (now (cells .entry)) to (take w (drop from (now (cells .entry)))) ⌝ }
+{
+    let mut j = 0;
+    while j < w {
+        cells[to + j] = cells[from + j];
+        j += 1;
+    }
+}
+
+// Moves every cell from `at` on up by w: the last w fall off, and the w at `at` stay as they were.
+pub fn move_up(cells: &mut [u64], at: usize, w: usize)
+    requires { ⌜ at + w ≤ length (now cells) ⌝ }
+    ensures { λ _. ⌜ now (cells .exit) ≡ movedUp (now (cells .entry)) at w ⌝ }
+{
+    let low = at + w;
+    let mut k = cells.len();
+    while low < k {
+        k -= 1;
+        cells[k] = cells[k - w];
+    }
+}
+
+// Puts a row in at `at`: what follows moves up, and what no longer fits falls off the end.
+pub fn put_in(cells: &mut [u64], at: usize, row: &[u64])
+    requires { ⌜ at + length (now row) ≤ length (now cells) ⌝ }
+    ensures { λ _. ⌜ now (cells .exit) ≡ putIn (now (cells .entry)) at (now (row .entry)) ⌝ }
+{
+    move_up(cells, at, row.len());
+    write(cells, at, row);
+}
+
+// Takes w cells out at `at`: what follows moves down, and zeros come in at the end.
+pub fn take_out(cells: &mut [u64], at: usize, w: usize)
+    requires { ⌜ at + w ≤ length (now cells) ⌝ }
+    ensures { λ _. ⌜ now (cells .exit) ≡ takenOut (now (cells .entry)) at w ⌝ }
+{
+    let end = cells.len() - w;
+    move_down(cells, at + w, at, end - at);
+    clear(&mut cells[end..]);
+}

@@ -1,0 +1,4 @@
+pub mod Interfaces
+pub mod Parts
+pub mod Encoding
+pub mod Calls

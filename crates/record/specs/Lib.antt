@@ -1,0 +1,3 @@
+-- One originator's record in its cells.
+pub mod Record
+pub mod Limits

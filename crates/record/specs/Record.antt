@@ -1,0 +1,80 @@
+-- How one originator's record lies in cells: address, current number, time, last TTL, number of links, best link's pair;
+-- then the pair and the word of marks of each link; the rest is zero.
+use mathlib.Core.Path.{_≡_}
+use mathlib.Core.List.{List, [], _∷_, _++_}
+use mathlib.Core.Bool.{Bool, true, _&&_}
+use Prim.Native.Nat.{ℕ, _+_, _*_, _≤_, _<_}
+use lib.ListN.{length, drop, getD}
+use Rattle.lists.specs.Lists.{and}
+use Rattle.lists.specs.Keyed.{rising}
+use Rattle.cells.specs.Area.{allZero}
+use Rattle.cells.specs.Pairs.{pairArea, pairsOf}
+use Rattle.rules.specs.Settings.{Config, linkMost, linkCells, recordHeadCells, recordCells}
+use Rattle.rules.specs.Table.{TableRecord}
+use Rattle.rules.specs.WellFormed.{recordTests}
+
+-- ---- the places of the fields
+
+abbrev pub addressAt : ℕ
+addressAt = 0
+
+abbrev pub currentAt : ℕ
+currentAt = 1
+
+abbrev pub timeAt : ℕ
+timeAt = 2
+
+abbrev pub lastTtlAt : ℕ
+lastTtlAt = 3
+
+-- how many links are held
+abbrev pub linksAt : ℕ
+linksAt = 4
+
+-- the best link's pair
+abbrev pub bestAt : ℕ
+bestAt = 5
+
+-- ---- from a record, under its originator's address, to cells
+
+abbrev pub fieldsOf : ℕ × TableRecord → List ℕ
+fieldsOf e = e .0 ∷ e .1 .current ∷ e .1 .time ∷ e .1 .lastTtl ∷ length (e .1 .links) ∷ e .1 .best ∷ []
+
+unfoldable pub encodeRecord : ℕ × TableRecord → List ℕ
+encodeRecord e = fieldsOf e ++ pairArea linkMost (e .1 .links)
+
+-- ---- and back
+
+-- the links that a record's cells hold
+abbrev pub linksOf : List ℕ → List (ℕ × ℕ)
+linksOf row = pairsOf (getD row linksAt 0) (drop recordHeadCells row)
+
+unfoldable pub decodeRecord : List ℕ → ℕ × TableRecord
+decodeRecord row = (
+  getD row addressAt 0,
+  record {
+    current = getD row currentAt 0;
+    time = getD row timeAt 0;
+    lastTtl = getD row lastTtlAt 0;
+    best = getD row bestAt 0;
+    links = linksOf row;
+  },
+)
+
+-- the cells that no link uses
+abbrev pub unusedLinks : List ℕ → List ℕ
+unusedLinks row = drop (recordHeadCells + getD row linksAt 0 * linkCells) row
+
+-- the cells of a record by document 01, "A well-formed table", at the table's time
+unfoldable pub recordOk : Config → (now : ℕ) → List ℕ → Bool
+recordOk κ now row = and (recordTests κ now (decodeRecord row)) && allZero (unusedLinks row)
+
+-- ---- what is known of the cells of a record in a well-formed table
+
+pub record Held (row : List ℕ) : Type 0 where
+  pub size : length row ≡ recordCells
+  pub current : getD row currentAt 0 < 65536
+  pub ttl : getD row lastTtlAt 0 < 256
+  pub few : getD row linksAt 0 ≤ linkMost
+  pub best : getD row bestAt 0 < 17179869184
+  pub rises : rising (linksOf row) ≡ true

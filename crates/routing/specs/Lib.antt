@@ -1,0 +1,1 @@
+-- There are no definitions here: the calls cite those of the table.

@@ -1,0 +1,71 @@
+// The best question.
+use cells::Found;
+use cells::find;
+use layout::RECORDS;
+use layout::RECORDS_FROM;
+use layout::WINDOW;
+use record::WIDTH;
+use record::route_of;
+use rules::Asked;
+use rules::Route;
+use table::well_formed;
+ghost use mathlib.Core.Path.{_≡_};
+ghost use Rattle.lists.specs.Keyed.{lookup};
+ghost use Rattle.rules.specs.Calls.{ask, asked, answered, noRoute};
+ghost use Rattle.rules.specs.Rules.{routeOf};
+ghost use Rattle.rules.specs.Table.{table};
+ghost use Rattle.layout.specs.Cells.{configIn, recordsIn};
+ghost use Rattle.layout.specs.Facts.{Knows};
+ghost use Rattle.layout.specs.Calls.{callOn};
+
+// The refusal of a table that is not well-formed.
+pub const NOT_WELL_FORMED: u64 = 1;
+
+// No route: all zeros.
+pub fn no_route() -> Route
+    ensures { λ r. ⌜ r ≡ noRoute ⌝ }
+{
+    Route {
+        neighbour: 0,
+        interface: 0,
+        count: 0,
+        window: 0,
+    }
+}
+
+// The route to an originator, in a table that is well-formed.
+pub fn route_to(cells: &[u64], originator: u64) -> Route
+    requires { ⌜ Knows (now cells) ⌝ }
+    ensures { λ r. ⌜ r ≡ routeOf table (configIn (now (cells .entry))) (lookup originator (recordsIn (now (cells .entry)))) ⌝ }
+{
+    let f = find(
+        &cells[RECORDS_FROM..],
+        WIDTH,
+        cells[RECORDS] as usize,
+        originator,
+    );
+    match f {
+        Found::At(i) => {
+            let at = RECORDS_FROM + i * WIDTH;
+            let end = at + WIDTH;
+            route_of(&cells[at..end], cells[WINDOW] as u32)
+        }
+        Found::Place(_) => no_route(),
+    }
+}
+
+// The best link to an originator: refusal 1, or neighbour, interface, count and window, all 0 where no record is held.
+pub fn best(cells: &[u64], originator: u32) -> Asked
+    ensures { λ r. ⌜ (callOn (now (cells .entry)) (ask originator) .reply ≡ answered (asked r)) × (callOn (now (cells .entry)) (ask originator) .cells ≡ now (cells .entry)) ⌝ }
+{
+    if !well_formed(cells) {
+        return Asked {
+            number: NOT_WELL_FORMED,
+            route: no_route(),
+        };
+    }
+    Asked {
+        number: 0,
+        route: route_to(cells, originator as u64),
+    }
+}

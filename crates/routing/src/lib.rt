@@ -1,0 +1,2 @@
+// The calls that a daemon makes on a table.
+pub mod best;

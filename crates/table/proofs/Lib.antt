@@ -1,0 +1,4 @@
+pub mod Checks
+pub mod Own
+pub mod Turns
+pub mod Knowing

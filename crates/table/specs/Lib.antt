@@ -1,0 +1,2 @@
+-- The check of a whole table.
+pub mod Check
