@@ -1,0 +1,3 @@
+-- Counting an originator message in a record's cells.
+pub mod Counting
+pub mod Links

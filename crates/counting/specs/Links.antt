@@ -1,0 +1,72 @@
+-- Names for the parts of the rules' `settle`, and what the steps of counting leave of a record's links. This link is the one that the message came by.
+use Prim.Native.Nat.{ℕ, _+_, _*_, _≤_}
+use mathlib.Core.Path.{_≡_}
+use mathlib.Core.Bool.{Bool, cond, _||_}
+use mathlib.Core.List.{List, [], _∷_, _++_, map}
+use lib.Dec.{ltb, eqb}
+use lib.ListN.{length, take, drop}
+use Rattle.lists.specs.Lists.{keep}
+use Rattle.lists.specs.Keyed.{put, mapValues}
+use Rattle.cells.specs.Area.{fit, zeros, flat}
+use Rattle.cells.specs.Pairs.{pairRow, pairsOf}
+use Rattle.window.specs.Window.{shift, mark, count, hasMark}
+use Rattle.rules.specs.Settings.{Config, linkMost, linkCells}
+use Rattle.rules.specs.Rules.{notHigher}
+use Rattle.rules.specs.Table.{marksAt, isHighest}
+
+-- ---- parts of the rules
+
+abbrev pub Links : Type 0
+Links = List (ℕ × ℕ)
+
+-- the first n links of a part, once current has moved up by d
+abbrev pub moved : (W d n : ℕ) → List ℕ → Links
+moved W d n part = mapValues (shift W d) (pairsOf n part)
+
+-- a link has a mark or is best
+abbrev pub stays : (best : ℕ) → ℕ × ℕ → Bool
+stays b e = hasMark (e .1) || eqb (e .0) b
+
+-- a link is this one, or has no higher count than `high`, this one's
+abbrev pub yields : Config → (key high : ℕ) → ℕ × ℕ → Bool
+yields κ k high e = eqb (e .0) k || notHigher κ (count (e .1)) high
+
+-- best, once this link has the marks v
+abbrev pub chosen : Config → (key v best : ℕ) → Links → ℕ
+chosen κ k v b ls = cond (isHighest κ k v ls) k b
+
+-- ---- what the steps leave
+
+-- the cells of a scratch: room for one link more than a record holds
+abbrev pub scratchCells : ℕ
+scratchCells = (linkMost + 1) * linkCells
+
+-- a scratch with no link written
+pub record Blank (out : List ℕ) : Type 0 where
+  pub size : length out ≡ scratchCells
+  pub cells : out ≡ zeros scratchCells
+
+-- the first `low` links are those below the key, those from `high` on the ones above it, and `marks` is the key's word
+pub record Located (ls : Links) (key low high marks : ℕ) : Type 0 where
+  pub order : low ≤ high
+  pub within : high ≤ length ls
+  pub below : keep (λ e. ltb (e .0) key) ls ≡ take low ls
+  pub above : keep (λ e. ltb key (e .0)) ls ≡ drop high ls
+  pub word : marks ≡ marksAt ls key
+
+-- `out` holds m links and zeros, which together with the links to come are the goal
+pub record Built (out : List ℕ) (m : ℕ) (rest goal : Links) : Type 0 where
+  pub links : Links
+  pub cells : out ≡ fit (length out) (flat (map pairRow links))
+  pub size : m ≡ length links
+  pub joined : links ++ rest ≡ goal
+
+-- `out` holds n links: this one with the marks v between the first `low` of ls and those from `high` on, without those that give up their place; b is best
+pub record Arranged (out : List ℕ) (n b low high key v best : ℕ) (ls : Links) : Type 0 where
+  pub chose : (κ : Config) → b ≡ chosen κ key v best ls
+  pub links : Built out n [] (keep (stays b) (take low ls) ++ ((key, v) ∷ keep (stays b) (drop high ls)))
+
+-- `out` holds n links: those of ls with the number k below current marked on this one, without those that give up their place; b is best
+pub record Recounted (out : List ℕ) (n b key k best : ℕ) (ls : Links) : Type 0 where
+  pub chose : (κ : Config) → b ≡ chosen κ key (mark (marksAt ls key) k) best (put key (mark (marksAt ls key) k) ls)
+  pub links : Built out n [] (keep (stays b) (put key (mark (marksAt ls key) k) ls))

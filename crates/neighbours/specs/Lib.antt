@@ -1,0 +1,2 @@
+-- The neighbour rows in their area of cells.
+pub mod Neighbours

@@ -1,0 +1,4 @@
+-- The own packet's steps, as the rules say them.
+pub mod Refusals
+pub mod Steps
+pub mod Call

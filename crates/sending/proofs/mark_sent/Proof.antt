@@ -1,0 +1,38 @@
+-- `sending::mark_sent` meets its contract. Assumes nothing.
+use mathlib.Core.Path.{_≡_, refl, sym, ap, _∙_}
+use mathlib.Core.List.{List}
+use Prim.Native.Nat.{ℕ, _+_, _-_}
+use native.Mathlib.Omega.{arith}
+use borrow.Author.Needs.{needs}
+use borrow.Rule.Slice.PartMut.{putMid}
+use lib.ListN.{take, drop, set}
+use denote.Ref.{now}
+use Rattle.rules.specs.Settings.{interfaceCells}
+use Rattle.layout.specs.Layout.{ownPlace, sentAt, lastAt}
+use Rattle.cells.proofs.Lent.{part-length}
+use Rattle.sending.proofs.Steps.{row-within, sent-is}
+use Rattle.sending.proofs.mark_sent.Statement.{statement}
+use Rattle.sending.proofs.mark_sent.Tie as tie
+
+returns : tie.Need-returns
+returns c =
+    let s = c .before .before .before .before .before in
+    let w : ownPlace (s .args .i) + interfaceCells - ownPlace (s .args .i) ≡ interfaceCells = omega arith in
+    ap (λ (k : ℕ). putMid (ownPlace (s .args .i)) k (now (s .args .cells)) (c .before .before .row-sent .last .0)) w
+    ∙ sent-is (now (s .args .cells)) (s .pre .0) (s .args .i) (s .pre .1) (s .args .number) _
+    (c .before .before .row-sent .ensures ∙ ap (λ (k : ℕ). set (set (take k (drop (ownPlace (s .args .i)) (now (s .args .cells)))) sentAt 1) lastAt (s .args .number)) w)
+
+pub mark-sent-spec : {M : Type 1} → statement M
+mark-sent-spec =
+    tie.close
+    (tie.spec
+    (λ c. search needs)
+    (λ c. search needs)
+    (λ c. search needs)
+    (λ c. search needs)
+    (λ c. search needs)
+    (λ c. search needs)
+    (λ c. search needs)
+    (λ c κs. search needs)
+    (λ c. search needs)
+    returns)

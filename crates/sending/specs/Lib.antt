@@ -1,0 +1,2 @@
+-- The own packet on cells.
+pub mod Sending

@@ -1,0 +1,2 @@
+-- The sweep on cells.
+pub mod Sweeping
