@@ -25,6 +25,8 @@ c-tests:
 	@mkdir -p $(BUILD)
 	@$(CC) $(CFLAGS) $(WARN) -Iinclude tests/packet_check.c $(ARCHIVE) -o $(BUILD)/packet_check
 	@$(BUILD)/packet_check tests/outside/batmand-0.3.2.txt tests/outside/batmand-as-draft.txt
+	@$(CC) $(CFLAGS) $(WARN) -Iinclude tests/calls.c $(ARCHIVE) -o $(BUILD)/calls
+	@$(BUILD)/calls
 	@$(CC) $(CFLAGS) $(WARN) -Iinclude examples/check.c $(ARCHIVE) -o $(BUILD)/check
 	@$(BUILD)/check | diff tests/check.expected - && echo "example: prints what it should"
 	@tools/readme-example README.md > $(BUILD)/readme.c

@@ -34,6 +34,77 @@ uint64_t batman_packet_check(const uint8_t *packet, size_t length, uint64_t vers
 static inline uint64_t batman_refusal_number(uint64_t answer) { return answer % 256; }
 static inline uint64_t batman_refusal_place(uint64_t answer) { return answer / 256; }
 
+/* ---- the table
+ *
+ * A table lies in cells of 64 bits that the caller lends to every call: batman_cells_needed says how many, docs/LAYOUT.md how they are laid
+ * out. Every call but make and the packet check begins by checking the whole table, so cells that anything else wrote to are refused by 1.
+ * A refused call answers its number, every other field 0 (but the place for 8), and changes no cell and no octet. Refusals in their order:
+ *
+ *   1  the table is not well-formed               7, 8  as the packet check says
+ *   2  no such interface in use                   12    a setting, an interface row or the number of cells is not allowed
+ *   3  a time before the table's                  13    an own packet's TTL is below 2
+ *   4  the output is shorter than the packet      5, 6  as the packet check says
+ */
+
+/* What a table is made with. Values that are not allowed are refused by 12. */
+struct batman_settings {
+    uint64_t version;  /* 0 to 255; the default is 4 */
+    uint64_t window;   /* 1 to 64 sequence numbers; 64 */
+    uint64_t timeout;  /* link timeout in own messages, 1 to 1,000; 32 */
+    uint64_t purge;    /* purge timeout in milliseconds, 1 to 2^32 - 1; 640,000 */
+    uint64_t capacity; /* originators held, 1 to 256; 64 */
+};
+
+struct batman_interface {
+    uint32_t own;       /* own address; those in use differ */
+    uint32_t broadcast; /* broadcast address */
+    uint16_t first;     /* the first sequence number */
+};
+
+/* Four rows, of which the first `used` are in use, 1 to 4; they are numbered from 0, and the others are ignored. */
+struct batman_interfaces {
+    struct batman_interface row[4];
+    uint64_t used;
+};
+
+/* A route is always neighbour, interface, count and window size together; all zeros where there is none. */
+struct batman_route {
+    uint32_t neighbour, interface, count, window;
+};
+
+struct batman_written {
+    uint64_t number, place;
+    uint64_t length;   /* how many octets were written */
+    uint16_t sequence; /* the packet's sequence number */
+};
+
+struct batman_swept {
+    uint64_t number;
+    uint64_t removed; /* how many originators were removed */
+};
+
+struct batman_asked {
+    uint64_t number;
+    struct batman_route route;
+};
+
+/* How many cells a capacity needs; 0 for one that is not allowed. */
+uint64_t batman_cells_needed(uint64_t capacity);
+
+/* Makes a fresh table in all the cells given, whatever they held: 0, or 12 and nothing is changed. */
+uint64_t batman_make(uint64_t *cells, size_t count, struct batman_settings settings, struct batman_interfaces interfaces);
+
+/* Writes an interface's next own packet at the start of the output, and nothing behind it. Refused by 1 to 5, 7, 8 and 13.
+ * `hna` are the octets after the packet's first 12, `hna_length` of them; `room` is how many octets the output has. */
+struct batman_written batman_own_packet(uint64_t *cells, size_t count, uint64_t interface, uint64_t time, uint8_t ttl, uint8_t gateway,
+                                        uint16_t port, const uint8_t *hna, size_t hna_length, uint8_t *output, size_t room);
+
+/* Removes the originators last heard more than the purge timeout ago. Refused by 1 and 3. */
+struct batman_swept batman_sweep(uint64_t *cells, size_t count, uint64_t time);
+
+/* The best link to an originator, or no route. Refused by 1 alone; changes nothing. */
+struct batman_asked batman_best(const uint64_t *cells, size_t count, uint32_t originator);
+
 #ifdef __cplusplus
 }
 #endif

@@ -1,6 +1,24 @@
 // The C interface: each function here is exported from the archive, and none has a `requires`.
+use rules::Asked;
+use rules::Interface;
+use rules::Settings;
+use rules::Swept;
+use rules::Written;
 ghost use mathlib.Core.Path.{_≡_};
+ghost use mathlib.Core.List.{[]};
 ghost use Rattle.wire.specs.Check.{packetCheck};
+ghost use Rattle.rules.specs.Calls as C;
+ghost use Rattle.layout.specs.Calls.{callOn};
+ghost use Rattle.make.specs.Make.{makeArgs, neededFor};
+ghost use Rattle.changes.specs.Performed.{Performed};
+ghost use Rattle.sending.specs.Sending.{args};
+
+// The interface rows as C passes them: an array can't be a parameter there.
+#[repr(C)]
+pub struct Interfaces {
+    pub row: [Interface; 4],
+    pub used: u64,
+}
 
 // The packet check: 0 for a packet without fault, else the refusal number, and for refusal 8 that number plus 256 times the place.
 #[no_mangle]
@@ -8,4 +26,54 @@ pub extern "C" fn batman_packet_check(packet: &[u8], version: u64) -> u64
     ensures { λ r. ⌜ r ≡ packetCheck version (now (packet .entry)) ⌝ }
 {
     wire::check::packet_check(packet, version)
+}
+
+// How many cells a capacity needs; 0 for one that is not allowed.
+#[no_mangle]
+pub extern "C" fn batman_cells_needed(capacity: u64) -> u64
+    ensures { λ r. ⌜ r ≡ neededFor capacity ⌝ }
+{
+    make::cells_needed(capacity)
+}
+
+// Makes a fresh table in all the cells given, or answers 12.
+#[no_mangle]
+pub extern "C" fn batman_make(cells: &mut [u64], settings: Settings, interfaces: Interfaces) -> u64
+    ensures { λ r. ⌜ (callOn (now (cells .entry)) (C.make (makeArgs settings (interfaces .row) (interfaces .used))) .reply ≡ C.answered (C.made r)) × (now (cells .exit) ≡ callOn (now (cells .entry)) (C.make (makeArgs settings (interfaces .row) (interfaces .used))) .cells) ⌝ }
+{
+    let rows = interfaces.row;
+    make::make(cells, settings, rows, interfaces.used)
+}
+
+// Writes an interface's next own packet at the start of the output.
+#[no_mangle]
+pub extern "C" fn batman_own_packet(
+    cells: &mut [u64],
+    interface: u64,
+    time: u64,
+    ttl: u8,
+    gateway: u8,
+    port: u16,
+    hna: &[u8],
+    out: &mut [u8],
+) -> Written
+    ensures { λ r. ⌜ Performed (now (cells .entry)) (C.own (args interface time ttl gateway port (now (hna .entry)) (now (out .entry)))) (C.written r) (now (out .exit)) (now (cells .exit)) ⌝ }
+{
+    sending::own_packet(cells, interface, time, ttl, gateway, port, hna, out)
+}
+
+// Removes the records whose time is more than the purge timeout ago.
+#[no_mangle]
+pub extern "C" fn batman_sweep(cells: &mut [u64], time: u64) -> Swept
+    ensures { λ r. ⌜ Performed (now (cells .entry)) (C.sweep time) (C.swept r) [] (now (cells .exit)) ⌝ }
+{
+    sweeping::sweep(cells, time)
+}
+
+// The best link to an originator.
+#[no_mangle]
+pub extern "C" fn batman_best(cells: &[u64], originator: u32) -> Asked
+    ensures { λ r. ⌜ (callOn (now (cells .entry)) (C.ask originator) .reply ≡ C.answered (C.asked r)) × (callOn (now (cells .entry)) (C.ask originator) .cells ≡ now (cells .entry)) ⌝ }
+{
+    routing::best::best(cells, originator)
 }
