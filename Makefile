@@ -5,7 +5,7 @@ WARN = -std=c11 -Wall -Wextra -Werror
 ARCHIVE = target/staticlib/libbatman.a
 BUILD = target/c
 
-.PHONY: demo test archive c-tests
+.PHONY: demo test archive c-tests bench
 
 demo: archive
 	@mkdir -p $(BUILD)
@@ -32,3 +32,7 @@ c-tests:
 	@tools/readme-example README.md > $(BUILD)/readme.c
 	@$(CC) $(CFLAGS) $(WARN) -Iinclude $(BUILD)/readme.c $(ARCHIVE) -o $(BUILD)/readme
 	@$(BUILD)/readme | diff tests/readme.expected - && echo "README: its example compiles as printed and prints what it says"
+
+# Speed beside an independent version in C, as a ratio; no test depends on it.
+bench:
+	@bench/wellformed/run
