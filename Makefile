@@ -27,6 +27,8 @@ c-tests:
 	@$(BUILD)/packet_check tests/outside/batmand-0.3.2.txt tests/outside/batmand-as-draft.txt
 	@$(CC) $(CFLAGS) $(WARN) -Iinclude tests/calls.c $(ARCHIVE) -o $(BUILD)/calls
 	@$(BUILD)/calls
+	@$(CC) $(CFLAGS) $(WARN) -Iinclude tests/history.c tests/book.c $(ARCHIVE) -o $(BUILD)/history
+	@$(BUILD)/history
 	@$(CC) $(CFLAGS) $(WARN) -Iinclude examples/check.c $(ARCHIVE) -o $(BUILD)/check
 	@$(BUILD)/check | diff tests/check.expected - && echo "example: prints what it should"
 	@tools/readme-example README.md > $(BUILD)/readme.c

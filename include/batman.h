@@ -37,13 +37,22 @@ static inline uint64_t batman_refusal_place(uint64_t answer) { return answer / 2
 /* ---- the table
  *
  * A table lies in cells of 64 bits that the caller lends to every call: batman_cells_needed says how many, docs/LAYOUT.md how they are laid
- * out. Every call but make and the packet check begins by checking the whole table, so cells that anything else wrote to are refused by 1.
+ * out. Every call but make and the packet check begins by checking the whole table: cells that are no well-formed table are refused by 1.
  * A refused call answers its number, every other field 0 (but the place for 8), and changes no cell and no octet. Refusals in their order:
  *
- *   1  the table is not well-formed               7, 8  as the packet check says
- *   2  no such interface in use                   12    a setting, an interface row or the number of cells is not allowed
- *   3  a time before the table's                  13    an own packet's TTL is below 2
- *   4  the output is shorter than the packet      5, 6  as the packet check says
+ *   1  the table is not well-formed                        9   32 neighbour rows are held and another would be needed
+ *   2  no such interface in use                            10  as many originators as the capacity are held and another would be needed
+ *   3  a time before the table's                           11  more than 8 links of the originator would be held
+ *   4  the output is shorter than the packet               12  a setting, an interface row or the number of cells is not allowed
+ *   5, 6, 7, 8  as the packet check says                   13  an own packet's TTL is below 2
+ *
+ * A received packet that is not refused gets one of the verdicts, the first that applies:
+ *
+ *   20  the sender is one of our addresses                 24  its U flag is set: it came over a link of one direction
+ *   21  the sender is one of our broadcast addresses       25  taken, and not passed on
+ *   22  the echo of our last packet: its link is           26  taken, and passed on: the copy for the receiving interface
+ *       bidirectional                                          is in the output, and `flags` is octet 1 of the copies
+ *   23  our own packet, but no such echo                       for the other interfaces
  */
 
 /* What a table is made with. Values that are not allowed are refused by 12. */
@@ -72,6 +81,12 @@ struct batman_route {
     uint32_t neighbour, interface, count, window;
 };
 
+struct batman_received {
+    uint64_t number, place;
+    uint8_t flags;             /* with 26: octet 1 of the copies for the other interfaces */
+    struct batman_route route; /* to the packet's originator, as the call leaves the table */
+};
+
 struct batman_written {
     uint64_t number, place;
     uint64_t length;   /* how many octets were written */
@@ -93,6 +108,12 @@ uint64_t batman_cells_needed(uint64_t capacity);
 
 /* Makes a fresh table in all the cells given, whatever they held: 0, or 12 and nothing is changed. */
 uint64_t batman_make(uint64_t *cells, size_t count, struct batman_settings settings, struct batman_interfaces interfaces);
+
+/* Takes a received packet: `length` octets from `sender`, heard by `interface` at `time` in milliseconds. Refused by 1 to 11.
+ * With 26 the first `length` octets of the output are the copy to be sent on the receiving interface; nothing else is ever written there.
+ * `room` is how many octets the output has, and must be at least `length` whatever the verdict. */
+struct batman_received batman_receive(uint64_t *cells, size_t count, const uint8_t *packet, size_t length, uint32_t sender,
+                                      uint64_t interface, uint64_t time, uint8_t *output, size_t room);
 
 /* Writes an interface's next own packet at the start of the output, and nothing behind it. Refused by 1 to 5, 7, 8 and 13.
  * `hna` are the octets after the packet's first 12, `hna_length` of them; `room` is how many octets the output has. */

@@ -1,6 +1,7 @@
 // The C interface: each function here is exported from the archive, and none has a `requires`.
 use rules::Asked;
 use rules::Interface;
+use rules::Received;
 use rules::Settings;
 use rules::Swept;
 use rules::Written;
@@ -11,6 +12,7 @@ ghost use Rattle.rules.specs.Calls as C;
 ghost use Rattle.layout.specs.Calls.{callOn};
 ghost use Rattle.make.specs.Make.{makeArgs, neededFor};
 ghost use Rattle.changes.specs.Performed.{Performed};
+ghost use Rattle.receiving.specs.Receiving.{argsOf};
 ghost use Rattle.sending.specs.Sending.{args};
 
 // The interface rows as C passes them: an array can't be a parameter there.
@@ -43,6 +45,21 @@ pub extern "C" fn batman_make(cells: &mut [u64], settings: Settings, interfaces:
 {
     let rows = interfaces.row;
     make::make(cells, settings, rows, interfaces.used)
+}
+
+// Judges a received packet: what it is counted as, whether it is passed on, and the route to its originator.
+#[no_mangle]
+pub extern "C" fn batman_receive(
+    cells: &mut [u64],
+    packet: &[u8],
+    sender: u32,
+    interface: u64,
+    time: u64,
+    out: &mut [u8],
+) -> Received
+    ensures { λ r. ⌜ Performed (now (cells .entry)) (C.receive (argsOf (now (packet .entry)) sender interface time (now (out .entry)))) (C.received r) (now (out .exit)) (now (cells .exit)) ⌝ }
+{
+    receiving::receive(cells, packet, sender, interface, time, out)
 }
 
 // Writes an interface's next own packet at the start of the output.

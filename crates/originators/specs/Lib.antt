@@ -1,0 +1,2 @@
+-- The originators' records in a table's cells.
+pub mod Originators

@@ -1,0 +1,79 @@
+// The originators' records in a table's cells: found by address, counted in, and made.
+use cells::Found;
+use cells::find;
+use cells::put_in;
+use counting::count_message;
+use counting::first_record;
+use layout::RECORDS;
+use layout::RECORDS_FROM;
+use layout::WINDOW;
+use record::WIDTH;
+ghost use mathlib.Core.Path.{_≡_};
+ghost use Prim.Native.Nat.{ℕ, _<_};
+ghost use lib.ListN.{getD};
+ghost use Rattle.lists.specs.Keyed.{put};
+ghost use Rattle.rules.specs.Table.{firstRecord};
+ghost use Rattle.layout.specs.Layout.{capacityAt, recordsAt};
+ghost use Rattle.layout.specs.Cells.{encode, decode};
+ghost use Rattle.layout.specs.Facts.{Knows};
+ghost use Rattle.counting.specs.Counting.{ogm};
+ghost use Rattle.changes.specs.Changes.{withRecords};
+ghost use Rattle.originators.specs.Originators.{Holds, Stands, Missing, RecordFound, CountedIn};
+
+// Where an originator's record stands among those held, or the place where it would go.
+pub fn find_record(cells: &[u64], originator: u32) -> Found
+    requires { ⌜ Knows (now cells) ⌝ }
+    ensures { λ r. ⌜ RecordFound (now (cells .entry)) originator r ⌝ }
+{
+    find(
+        &cells[RECORDS_FROM..],
+        WIDTH,
+        cells[RECORDS] as usize,
+        originator as u64,
+    )
+}
+
+// Counts a message in the record at place i. False, and nothing changes, where more than 8 links would have marks or be best.
+pub fn count_record(
+    cells: &mut [u64],
+    i: usize,
+    link: u64,
+    sequence: u16,
+    ttl: u8,
+    time: u64,
+) -> bool
+    requires { ⌜ Holds (now cells) i ⌝ }
+    ensures { λ r. ⌜ ((o : ℕ) → Stands (now (cells .entry)) o i → CountedIn (now (cells .entry)) (now (cells .exit)) o i (ogm link sequence ttl time) r) ⌝ }
+{
+    let w = cells[WINDOW];
+    let at = RECORDS_FROM + i * WIDTH;
+    let end = at + WIDTH;
+    count_message(&mut cells[at..end], w, link, sequence, ttl as u64, time)
+}
+
+// Puts the record that an originator's first counted message makes in at its place i.
+pub fn make_record(
+    cells: &mut [u64],
+    i: usize,
+    originator: u32,
+    link: u64,
+    sequence: u16,
+    ttl: u8,
+    time: u64,
+)
+    requires { ⌜ Missing (now cells) originator i × (getD (now cells) recordsAt 0 < getD (now cells) capacityAt 0) ⌝ }
+    ensures { λ _. ⌜ now (cells .exit) ≡ encode (withRecords (put originator (firstRecord (decode (now (cells .entry)) .config) (ogm link sequence ttl time)) (decode (now (cells .entry)) .records)) (decode (now (cells .entry)))) ⌝ }
+{
+    let n = cells[RECORDS];
+    let mut row = [0u64; WIDTH];
+    first_record(
+        &mut row,
+        originator as u64,
+        link,
+        sequence,
+        ttl as u64,
+        time,
+    );
+    put_in(&mut cells[RECORDS_FROM..], i * WIDTH, &row);
+    cells[RECORDS] = n + 1;
+}

@@ -1,0 +1,2 @@
+-- A received packet on a table's cells.
+pub mod Receiving
