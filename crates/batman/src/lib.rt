@@ -6,9 +6,11 @@ use rules::Settings;
 use rules::Swept;
 use rules::Written;
 ghost use mathlib.Core.Path.{_≡_};
+ghost use mathlib.Core.Bool.{true};
 ghost use mathlib.Core.List.{[]};
 ghost use Rattle.wire.specs.Check.{packetCheck};
 ghost use Rattle.rules.specs.Calls as C;
+ghost use Rattle.rules.specs.WellFormed.{typed};
 ghost use Rattle.layout.specs.Calls.{callOn};
 ghost use Rattle.make.specs.Make.{makeArgs, neededFor};
 ghost use Rattle.changes.specs.Performed.{Performed};
@@ -57,7 +59,8 @@ pub extern "C" fn batman_receive(
     time: u64,
     out: &mut [u8],
 ) -> Received
-    ensures { λ r. ⌜ Performed (now (cells .entry)) (C.receive (argsOf (now (packet .entry)) sender interface time (now (out .entry)))) (C.received r) (now (out .exit)) (now (cells .exit)) ⌝ }
+    ensures { λ r. ⌜ Performed (now (cells .entry)) (C.receive (argsOf (now (packet .entry)) sender interface time (now (out .entry)))) (C.received r) (now (out .exit)) (now (cells .exit))
+        × (typed (C.receive (argsOf (now (packet .entry)) sender interface time (now (out .entry)))) ≡ true) ⌝ }
 {
     receiving::receive(cells, packet, sender, interface, time, out)
 }
@@ -74,7 +77,8 @@ pub extern "C" fn batman_own_packet(
     hna: &[u8],
     out: &mut [u8],
 ) -> Written
-    ensures { λ r. ⌜ Performed (now (cells .entry)) (C.own (args interface time ttl gateway port (now (hna .entry)) (now (out .entry)))) (C.written r) (now (out .exit)) (now (cells .exit)) ⌝ }
+    ensures { λ r. ⌜ Performed (now (cells .entry)) (C.own (args interface time ttl gateway port (now (hna .entry)) (now (out .entry)))) (C.written r) (now (out .exit)) (now (cells .exit))
+        × (typed (C.own (args interface time ttl gateway port (now (hna .entry)) (now (out .entry)))) ≡ true) ⌝ }
 {
     sending::own_packet(cells, interface, time, ttl, gateway, port, hna, out)
 }
@@ -82,7 +86,7 @@ pub extern "C" fn batman_own_packet(
 // Removes the records whose time is more than the purge timeout ago.
 #[no_mangle]
 pub extern "C" fn batman_sweep(cells: &mut [u64], time: u64) -> Swept
-    ensures { λ r. ⌜ Performed (now (cells .entry)) (C.sweep time) (C.swept r) [] (now (cells .exit)) ⌝ }
+    ensures { λ r. ⌜ Performed (now (cells .entry)) (C.sweep time) (C.swept r) [] (now (cells .exit)) × (typed (C.sweep time) ≡ true) ⌝ }
 {
     sweeping::sweep(cells, time)
 }

@@ -1,0 +1,1 @@
+-- The exported calls' proofs; what they rest on stands in the crates that they call.

@@ -1,0 +1,2 @@
+-- Demand 3's proof, of the cells.
+pub mod Demand3

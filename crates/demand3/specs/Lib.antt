@@ -1,0 +1,2 @@
+-- Demand 3, of the cells that the public calls are lent.
+pub mod Demand3
