@@ -14,7 +14,7 @@ ghost use Rattle.rules.specs.WellFormed.{typed};
 ghost use Rattle.layout.specs.Calls.{callOn};
 ghost use Rattle.make.specs.Make.{makeArgs, neededFor};
 ghost use Rattle.changes.specs.Performed.{Performed};
-ghost use Rattle.receiving.specs.Receiving.{argsOf};
+ghost use Rattle.arrivals.specs.Receiving.{argsOf};
 ghost use Rattle.sending.specs.Sending.{args};
 
 // The interface rows as C passes them: an array can't be a parameter there.

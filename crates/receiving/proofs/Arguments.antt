@@ -18,7 +18,7 @@ use Rattle.rules.proofs.Faults.{first-single}
 use Rattle.layout.specs.Layout.{versionAt, usedAt, timeAt}
 use Rattle.layout.specs.Cells.{decode}
 use Rattle.changes.proofs.Values.{used-read}
-use Rattle.receiving.specs.Receiving.{argsOf}
+use Rattle.arrivals.specs.Receiving.{argsOf}
 
 pub octets-of : (p : List ℕ) → ((k : ℕ) → getD p k 0 < 256) → all isOctet p ≡ true
 octets-of [] f = refl

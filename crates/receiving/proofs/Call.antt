@@ -31,8 +31,8 @@ use Rattle.table.proofs.Knowing.{knows}
 use Rattle.changes.specs.Performed.{Performed}
 use Rattle.changes.proofs.Values.{used-read}
 use Rattle.changes.proofs.Performing.{not-asked, does, refuses}
-use Rattle.receiving.specs.Receiving.{argsOf, arrivalOf, Leaves, IsFieldAt, Taken}
-use Rattle.receiving.proofs.Ways.{way-refused}
+use Rattle.arrivals.specs.Receiving.{argsOf, arrivalOf, Leaves, IsFieldAt, Taken}
+use Rattle.arrivals.proofs.Ways.{way-refused}
 
 pub own-field : IsFieldAt (λ i. i .own) ownAt
 unfolding encodeInterface

@@ -29,11 +29,11 @@ use Rattle.changes.specs.Changes.{withRecords}
 use Rattle.changes.proofs.Parts.{time-set}
 use Rattle.originators.specs.Originators.{heldBy, Stands, Missing, countedAt, CountedIn}
 use Rattle.originators.proofs.Changed.{records-count, written-at, in-at}
-use Rattle.receiving.specs.declared.Arrival.{Arrival}
-use Rattle.receiving.specs.Receiving.{callOf, after, Replies, Leaves, Fits, Taken, Ruled, Decides, Counts, concluded}
-use Rattle.receiving.proofs.Ways.{holding, concludes, way-counted, way-uncounted, way-10, way-first, way-next, first-few, way-11, way-stored}
-use Rattle.receiving.proofs.Tables.{time-cells}
-use Rattle.receiving.proofs.Endings.{link-is, ttl-is, sequence-is, originator-is, leaves-by, Concludes, concludes-by}
+use Rattle.arrivals.specs.declared.Arrival.{Arrival}
+use Rattle.arrivals.specs.Receiving.{callOf, after, Replies, Leaves, Fits, Taken, Ruled, Decides, Counts, concluded}
+use Rattle.arrivals.proofs.Ways.{holding, concludes, way-counted, way-uncounted, way-10, way-first, way-next, first-few, way-11, way-stored}
+use Rattle.arrivals.proofs.Tables.{time-cells}
+use Rattle.arrivals.proofs.Endings.{link-is, ttl-is, sequence-is, originator-is, leaves-by, Concludes, concludes-by}
 
 -- the message as it is counted
 message-is : {p o : List ℕ} {m : Arrival} → Fits p o m → ogm (m .link) (m .sequence) (m .ttl) (m .time) ≡ message (callOf p o m) (header p)

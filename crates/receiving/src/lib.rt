@@ -1,12 +1,11 @@
 // A received packet: its refusals, its verdict, the echo's neighbour row, the counted record, and the copy that is passed on.
-mod answers;
 mod others;
-mod own;
 
-use crate::answers::refused;
-use crate::answers::verdict;
 use crate::others::decide;
-use crate::own::own_message;
+use arrivals::Arrival;
+use arrivals::refused;
+use arrivals::verdict;
+use echoes::own_message;
 use layout::BROADCAST;
 use layout::OWN;
 use layout::OWN_0;
@@ -41,7 +40,7 @@ ghost use Rattle.rules.specs.WellFormed.{typed};
 ghost use Rattle.layout.specs.Cells.{decode};
 ghost use Rattle.layout.specs.Facts.{Knows};
 ghost use Rattle.changes.specs.Performed.{Performed};
-ghost use Rattle.receiving.specs.Receiving.{argsOf, arrivalOf, after, Leaves, IsFieldAt, Taken, Ruled};
+ghost use Rattle.arrivals.specs.Receiving.{argsOf, arrivalOf, after, Leaves, IsFieldAt, Taken, Ruled};
 
 // The refusals, and the verdicts.
 const NOT_WELL_FORMED: u64 = 1;
@@ -57,18 +56,6 @@ const OWN_SENDER: u64 = 20;
 const OWN_BROADCAST: u64 = 21;
 
 const UNIDIRECTIONAL: u64 = 24;
-
-// A received message: its link, when it came, and what its packet says.
-struct Arrival {
-    sender: u32,
-    interface: u64,
-    link: u64,
-    time: u64,
-    flags: u8,
-    ttl: u8,
-    sequence: u16,
-    originator: u32,
-}
 
 // The message that a packet begins with, as it came from a sender.
 fn read_arrival(packet: &[u8], sender: u32, interface: u64, time: u64) -> Arrival

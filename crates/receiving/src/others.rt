@@ -1,8 +1,8 @@
 // Messages of other nodes: counted or not, and passed on or not.
-use crate::Arrival;
-use crate::answers::conclude;
-use crate::answers::conclude_by;
-use crate::answers::refused;
+use arrivals::Arrival;
+use arrivals::conclude;
+use arrivals::conclude_by;
+use arrivals::refused;
 use cells::Found;
 use counting::is_duplicate;
 use layout::CAPACITY;
@@ -21,7 +21,7 @@ use routing::best::no_route;
 use rules::Received;
 use wire::check::refusal;
 ghost use Rattle.originators.specs.Originators.{Stands, Missing};
-ghost use Rattle.receiving.specs.Receiving.{after, Leaves, Taken, Ruled, Decides, Counts, foreign};
+ghost use Rattle.arrivals.specs.Receiving.{after, Leaves, Taken, Ruled, Decides, Counts, foreign};
 
 // The refusals.
 const RECORDS_FULL: u64 = 10;

@@ -1,6 +1,6 @@
 -- `receiving::is_listed` meets its contract. Assumes nothing.
 use denote.Ref.{now}
-use Rattle.receiving.proofs.Interfaces.{listed-is}
+use Rattle.echoes.proofs.Interfaces.{listed-is}
 use borrow.Author.Needs.{needs}
 use Rattle.receiving.proofs.is_listed.Statement.{statement}
 use Rattle.receiving.proofs.is_listed.Tie as tie

@@ -9,9 +9,9 @@ use Rattle.rules.specs.Settings.{isOwn, isBroadcast}
 use Rattle.rules.specs.Rules as R
 use Rattle.rules.specs.Table.{table}
 use Rattle.layout.specs.Cells.{decode}
-use Rattle.receiving.specs.Receiving.{callOf, Rule, Ruled, ownMessage, foreign}
-use Rattle.receiving.proofs.Ways.{way-20, way-21, way-own, way-24, way-foreign}
-use Rattle.receiving.proofs.Endings.{leaves-by, flags-is, originator-is, verdict-asks, verdict-left}
+use Rattle.arrivals.specs.Receiving.{callOf, Rule, Ruled, ownMessage, foreign}
+use Rattle.arrivals.proofs.Ways.{way-20, way-21, way-own, way-24, way-foreign}
+use Rattle.arrivals.proofs.Endings.{leaves-by, flags-is, originator-is, verdict-asks, verdict-left}
 use Rattle.receiving.proofs.Call.{own-field, broadcast-field}
 use Rattle.receiving.proofs.judge.Statement.{statement}
 use Rattle.receiving.proofs.judge.Tie as tie

@@ -4,7 +4,7 @@ use native.Mathlib.Omega.{arith}
 use denote.Ref.{now}
 use Rattle.wire.specs.declared.Header.{Header}
 use Rattle.rules.specs.Calls.{linkOf}
-use Rattle.receiving.specs.declared.Arrival.{Arrival}
+use Rattle.arrivals.specs.declared.Arrival.{Arrival}
 use Rattle.receiving.proofs.Arguments.{typed-of}
 use borrow.Author.Needs.{needs}
 use Rattle.receiving.proofs.read_arrival.Statement.{statement}

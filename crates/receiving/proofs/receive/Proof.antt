@@ -15,9 +15,9 @@ use Rattle.rules.proofs.Faults.{found-number}
 use Rattle.rules.specs.Table.{table}
 use Rattle.layout.specs.Cells.{decode, wellFormed}
 use Rattle.table.proofs.Knowing.{knows}
-use Rattle.receiving.specs.declared.Arrival.{Arrival}
-use Rattle.receiving.specs.Receiving.{argsOf, after, Leaves, Taken, Ruled}
-use Rattle.receiving.proofs.Ways.{way-judge}
+use Rattle.arrivals.specs.declared.Arrival.{Arrival}
+use Rattle.arrivals.specs.Receiving.{argsOf, after, Leaves, Taken, Ruled}
+use Rattle.arrivals.proofs.Ways.{way-judge}
 use Rattle.receiving.proofs.Call.{ill-formed, faulty, judged, by-number, in-use, has-header, takes}
 use Rattle.receiving.proofs.receive.Statement.{statement}
 use Rattle.receiving.proofs.receive.Tie as tie

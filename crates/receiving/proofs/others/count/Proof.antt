@@ -7,8 +7,8 @@ use borrow.Author.Tests.{not-true, not-false}
 use denote.Ref.{now}
 use lib.ListN.{set}
 use Rattle.layout.specs.Layout.{timeAt}
-use Rattle.receiving.specs.Receiving.{callOf}
-use Rattle.receiving.proofs.Endings.{Concludes, refused-left}
+use Rattle.arrivals.specs.Receiving.{callOf}
+use Rattle.arrivals.proofs.Endings.{Concludes, refused-left}
 use Rattle.receiving.proofs.Messages.{count-full, count-same, count-made}
 use borrow.Author.Needs.{needs}
 use Rattle.receiving.proofs.others.count.Statement.{statement}
@@ -16,8 +16,8 @@ use Rattle.receiving.proofs.others.count.Tie as tie
 use Rattle.receiving.proofs.others.count.Reads as reads
 use Rattle.receiving.proofs.others.count.Lts as lts
 use Rattle.originators.proofs.count_record.Reads as count-record-reads
-use Rattle.receiving.proofs.answers.conclude_by.Reads as conclude-by-reads
-use Rattle.receiving.proofs.answers.refused.Reads as refused-reads
+use Rattle.arrivals.proofs.conclude_by.Reads as conclude-by-reads
+use Rattle.arrivals.proofs.refused.Reads as refused-reads
 use Rattle.wire.proofs.check.refusal.Reads as refusal-reads
 
 -- the message is counted

@@ -5,8 +5,8 @@ use denote.Ref.{now}
 use Rattle.lists.specs.Keyed.{hasKey}
 use Rattle.cells.specs.declared.Found.{Found}
 use Rattle.originators.specs.Originators.{RecordFound}
-use Rattle.receiving.specs.Receiving.{Decides}
-use Rattle.receiving.proofs.Echoes.{rows-held, rows-are}
+use Rattle.arrivals.specs.Receiving.{Decides}
+use Rattle.echoes.proofs.Echoes.{rows-held, rows-are}
 use Rattle.receiving.proofs.others.decide.Statement.{statement}
 use Rattle.receiving.proofs.others.decide.Tie as tie
 

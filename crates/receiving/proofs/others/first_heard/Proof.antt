@@ -9,8 +9,8 @@ use denote.Ref.{now}
 use lib.ListN.{set}
 use mathlib.Core.Path.{refl}
 use Rattle.layout.specs.Layout.{timeAt}
-use Rattle.receiving.specs.Receiving.{callOf}
-use Rattle.receiving.proofs.Endings.{Concludes, refused-left}
+use Rattle.arrivals.specs.Receiving.{callOf}
+use Rattle.arrivals.proofs.Endings.{Concludes, refused-left}
 use Rattle.receiving.proofs.Messages.{first-kept, first-full, first-made}
 use borrow.Author.Needs.{needs}
 use Rattle.receiving.proofs.others.first_heard.Statement.{statement}
@@ -18,9 +18,9 @@ use Rattle.receiving.proofs.others.first_heard.Tie as tie
 use Rattle.receiving.proofs.others.first_heard.Reads as reads
 use Rattle.receiving.proofs.others.first_heard.Lts as lts
 use Rattle.originators.proofs.make_record.Reads as make-record-reads
-use Rattle.receiving.proofs.answers.conclude.Reads as conclude-reads
-use Rattle.receiving.proofs.answers.conclude_by.Reads as conclude-by-reads
-use Rattle.receiving.proofs.answers.refused.Reads as refused-reads
+use Rattle.arrivals.proofs.conclude.Reads as conclude-reads
+use Rattle.arrivals.proofs.conclude_by.Reads as conclude-by-reads
+use Rattle.arrivals.proofs.refused.Reads as refused-reads
 use Rattle.routing.proofs.best.no_route.Reads as no-route-reads
 use Rattle.wire.proofs.check.refusal.Reads as refusal-reads
 
