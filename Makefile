@@ -4,6 +4,8 @@ CFLAGS ?= -O2
 WARN = -std=c11 -Wall -Wextra -Werror
 ARCHIVE = target/staticlib/libbatman.a
 BUILD = target/c
+SANITIZE = -fsanitize=address,undefined -fno-sanitize-recover=all
+TESTED = $(CC) $(CFLAGS) $(WARN) $(SANITIZE) -Iinclude
 
 .PHONY: demo test archive c-tests bench
 
@@ -20,19 +22,21 @@ archive:
 test:
 	@tools/test
 
-# The tests in C, over an archive that stands already.
+# The tests in C and C++, over an archive that stands already. Their own side is built with sanitizers; the archive is as a daemon links it.
 c-tests:
 	@mkdir -p $(BUILD)
-	@$(CC) $(CFLAGS) $(WARN) -Iinclude tests/packet_check.c $(ARCHIVE) -o $(BUILD)/packet_check
+	@$(TESTED) tests/packet_check.c $(ARCHIVE) -o $(BUILD)/packet_check
 	@$(BUILD)/packet_check tests/outside/batmand-0.3.2.txt tests/outside/batmand-as-draft.txt
-	@$(CC) $(CFLAGS) $(WARN) -Iinclude tests/calls.c $(ARCHIVE) -o $(BUILD)/calls
+	@$(TESTED) tests/calls.c $(ARCHIVE) -o $(BUILD)/calls
 	@$(BUILD)/calls
-	@$(CC) $(CFLAGS) $(WARN) -Iinclude tests/history.c tests/book.c $(ARCHIVE) -o $(BUILD)/history
+	@$(TESTED) tests/history.c tests/book.c $(ARCHIVE) -o $(BUILD)/history
 	@$(BUILD)/history
-	@$(CC) $(CFLAGS) $(WARN) -Iinclude examples/check.c $(ARCHIVE) -o $(BUILD)/check
+	@$(CXX) $(CFLAGS) $(SANITIZE) -std=c++17 -Wall -Wextra -Werror -pedantic -Iinclude tests/cplusplus.cpp $(ARCHIVE) -o $(BUILD)/cplusplus
+	@$(BUILD)/cplusplus
+	@$(TESTED) examples/check.c $(ARCHIVE) -o $(BUILD)/check
 	@$(BUILD)/check | diff tests/check.expected - && echo "example: prints what it should"
 	@tools/readme-example README.md > $(BUILD)/readme.c
-	@$(CC) $(CFLAGS) $(WARN) -Iinclude $(BUILD)/readme.c $(ARCHIVE) -o $(BUILD)/readme
+	@$(TESTED) $(BUILD)/readme.c $(ARCHIVE) -o $(BUILD)/readme
 	@$(BUILD)/readme | diff tests/readme.expected - && echo "README: its example compiles as printed and prints what it says"
 
 # Speed beside an independent version in C, as a ratio; no test depends on it.

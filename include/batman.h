@@ -12,12 +12,44 @@
 extern "C" {
 #endif
 
-/* What the packet check answers besides 0. */
-enum batman_packet_refusal {
-    BATMAN_WRONG_SIZE = 5,      /* fewer than 12 or more than 1,472 octets */
-    BATMAN_WRONG_VERSION = 6,   /* the first octet is not the version asked for */
-    BATMAN_RAGGED_ENTRIES = 7,  /* the octets after the first 12 are not a multiple of 5 */
-    BATMAN_WRONG_MASK = 8       /* an HNA entry has a mask length above 32 */
+/* Sizes and limits. */
+enum batman_limit {
+    BATMAN_HEADER_SIZE = 12,      /* octets of a message before its HNA entries */
+    BATMAN_ENTRY_SIZE = 5,        /* octets of an HNA entry */
+    BATMAN_PACKET_MOST = 1472,    /* octets of a packet */
+    BATMAN_INTERFACES = 4,        /* interface rows given to make */
+    BATMAN_NEIGHBOURS_MOST = 32,  /* neighbour rows held */
+    BATMAN_LINKS_MOST = 8,        /* links held of one originator */
+    BATMAN_CAPACITY_MOST = 256,   /* originators held */
+    BATMAN_CELLS_MOST = 5725      /* cells of a table of that capacity */
+};
+
+/* Why a call is refused. Each call gives the first that applies, in this order; 0 is no refusal. */
+enum batman_refusal {
+    BATMAN_NOT_WELL_FORMED = 1,   /* the cells are not a well-formed table's */
+    BATMAN_NOT_IN_USE = 2,        /* no such interface in use */
+    BATMAN_TIME_BEFORE = 3,       /* a time before the table's */
+    BATMAN_SHORT_OUTPUT = 4,      /* the output is shorter than the packet; of the list call: fewer rows than links */
+    BATMAN_WRONG_SIZE = 5,        /* fewer than 12 or more than 1,472 octets */
+    BATMAN_WRONG_VERSION = 6,     /* the first octet is not the version asked for */
+    BATMAN_RAGGED_ENTRIES = 7,    /* the octets after the first 12 are not a multiple of 5 */
+    BATMAN_WRONG_MASK = 8,        /* an HNA entry has a mask length above 32; comes with the place of the first such entry */
+    BATMAN_NEIGHBOURS_FULL = 9,   /* 32 neighbour rows are held and another would be needed */
+    BATMAN_ORIGINATORS_FULL = 10, /* as many originators as the capacity are held and another would be needed */
+    BATMAN_LINKS_FULL = 11,       /* more than 8 links of the originator would be held */
+    BATMAN_NOT_ALLOWED = 12,      /* a setting, an interface row or the number of cells is not allowed */
+    BATMAN_TTL_TOO_LOW = 13       /* an own packet's TTL is below 2 */
+};
+
+/* What a received packet that is not refused gets: the first that applies, in this order. */
+enum batman_verdict {
+    BATMAN_OWN_SENDER = 20,       /* the sender is one of our addresses */
+    BATMAN_OWN_BROADCAST = 21,    /* the sender is one of our broadcast addresses */
+    BATMAN_ECHO = 22,             /* the echo of our last packet: its link is bidirectional */
+    BATMAN_OWN_ORIGINATOR = 23,   /* our own packet, but no such echo */
+    BATMAN_UNIDIRECTIONAL = 24,   /* its U flag is set: it came over a link of one direction */
+    BATMAN_KEPT = 25,             /* taken, and not passed on */
+    BATMAN_PASSED_ON = 26         /* taken, and passed on: the copy for the receiving interface is in the output */
 };
 
 /* Checks a received packet, before anything else is done with it.
@@ -26,9 +58,9 @@ enum batman_packet_refusal {
  * length   how many there are, 0 and any larger number included
  * version  the packet version in use, 4 by default; any number may be given, and one above 255 never equals an octet
  *
- * Answers 0 for a packet without fault. Otherwise the first of the refusals above that applies, in their order; refusal 8 comes with the
- * place, from 0, of the first HNA entry whose mask is above 32: the answer is then 8 + 256 * place. Take it apart by
- * batman_refusal_number and batman_refusal_place. */
+ * Answers 0 for a packet without fault. Otherwise the first of the refusals 5 to 8 that applies; refusal 8 comes with the place, from 0, of
+ * the first HNA entry whose mask is above 32: the answer is then 8 + 256 * place. Take it apart by batman_refusal_number and
+ * batman_refusal_place. */
 uint64_t batman_packet_check(const uint8_t *packet, size_t length, uint64_t version);
 
 static inline uint64_t batman_refusal_number(uint64_t answer) { return answer % 256; }
@@ -38,22 +70,7 @@ static inline uint64_t batman_refusal_place(uint64_t answer) { return answer / 2
  *
  * A table lies in cells of 64 bits that the caller lends to every call: batman_cells_needed says how many, docs/LAYOUT.md how they are laid
  * out. Every call but make and the packet check begins by checking the whole table: cells that are no well-formed table are refused by 1.
- * A refused call answers its number, every other field 0 (but the place for 8), and changes no cell and no octet. Refusals in their order:
- *
- *   1  the table is not well-formed                        9   32 neighbour rows are held and another would be needed
- *   2  no such interface in use                            10  as many originators as the capacity are held and another would be needed
- *   3  a time before the table's                           11  more than 8 links of the originator would be held
- *   4  the output is shorter than the packet               12  a setting, an interface row or the number of cells is not allowed
- *   5, 6, 7, 8  as the packet check says                   13  an own packet's TTL is below 2
- *
- * A received packet that is not refused gets one of the verdicts, the first that applies:
- *
- *   20  the sender is one of our addresses                 24  its U flag is set: it came over a link of one direction
- *   21  the sender is one of our broadcast addresses       25  taken, and not passed on
- *   22  the echo of our last packet: its link is           26  taken, and passed on: the copy for the receiving interface
- *       bidirectional                                          is in the output, and `flags` is octet 1 of the copies
- *   23  our own packet, but no such echo                       for the other interfaces
- */
+ * A refused call answers its number, every other field 0 (but the place for 8), and changes no cell, no octet and no row. */
 
 /* What a table is made with. Values that are not allowed are refused by 12. */
 struct batman_settings {
@@ -103,6 +120,17 @@ struct batman_asked {
     struct batman_route route;
 };
 
+/* A row of the list call: one held link. */
+struct batman_link_row {
+    uint32_t neighbour, interface, count, window;
+    uint32_t best; /* 1 where the link is the best one, else 0 */
+};
+
+struct batman_listed {
+    uint64_t number;
+    uint64_t filled; /* how many rows were filled */
+};
+
 /* How many cells a capacity needs; 0 for one that is not allowed. */
 uint64_t batman_cells_needed(uint64_t capacity);
 
@@ -125,6 +153,11 @@ struct batman_swept batman_sweep(uint64_t *cells, size_t count, uint64_t time);
 
 /* The best link to an originator, or no route. Refused by 1 alone; changes nothing. */
 struct batman_asked batman_best(const uint64_t *cells, size_t count, uint32_t originator);
+
+/* The held links of an originator, one row each at the start of `rows`, rising by neighbour, then interface; none for an originator without
+ * a record. `room` is how many rows are lent, 8 are always enough; further rows are left as they are. Refused by 1, and by 4 where there are
+ * fewer rows than links; changes no cell. */
+struct batman_listed batman_list(const uint64_t *cells, size_t count, uint32_t originator, struct batman_link_row *rows, size_t room);
 
 #ifdef __cplusplus
 }

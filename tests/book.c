@@ -322,6 +322,23 @@ struct batman_asked book_best(const struct book *b, uint32_t originator)
     return a;
 }
 
+struct batman_listed book_list(const struct book *b, uint32_t originator, struct batman_link_row *rows, size_t room)
+{
+    struct batman_listed a = {0, 0};
+    const struct book_log *l = find(b, originator);
+    uint64_t links[BOOK_MESSAGES];
+    int n = l ? held(b, l, links) : 0;
+    if (room < (size_t)n)
+        return a.number = 4, a;
+    for (int i = 0; i < n; i++) {
+        struct batman_link_row r = {(uint32_t)(links[i] / 4), (uint32_t)(links[i] % 4), count(b, l, l->messages, links[i]),
+                                    (uint32_t)b->settings.window, links[i] == l->message[l->messages - 1].best};
+        rows[i] = r;
+    }
+    a.filled = (uint64_t)n;
+    return a;
+}
+
 void book_free(struct book *b)
 {
     for (int i = 0; i < b->logs; i++)

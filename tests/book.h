@@ -43,6 +43,7 @@ struct batman_received book_receive(struct book *b, const uint8_t *packet, size_
 struct batman_written book_own(struct book *b, uint64_t interface, uint64_t time, uint8_t ttl, uint8_t gateway, uint16_t port, const uint8_t *hna, size_t length, uint8_t *output, size_t room);
 struct batman_swept book_sweep(struct book *b, uint64_t time);
 struct batman_asked book_best(const struct book *b, uint32_t originator);
+struct batman_listed book_list(const struct book *b, uint32_t originator, struct batman_link_row *rows, size_t count);
 uint64_t book_check(const uint8_t *packet, size_t length, uint64_t version);
 void book_free(struct book *b);
 

@@ -1,4 +1,4 @@
-/* Makes tables, sends own packets, sweeps and asks, and compares with what the rules say. */
+/* Calls every function of the library, with every refusal and every verdict at least once, and compares with what the rules say. */
 #include <inttypes.h>
 #include <stdio.h>
 #include <stdlib.h>
@@ -9,6 +9,15 @@
 enum { CELLS = 93 + 22 * 64 };
 
 static unsigned long compared, differing;
+
+/* Which refusals and verdicts have come up. */
+static int came_up[32];
+
+static uint64_t seen(uint64_t number)
+{
+    came_up[number % 32] = 1;
+    return number;
+}
 
 static void expect(const char *what, uint64_t is, uint64_t should)
 {
@@ -26,7 +35,7 @@ static const struct batman_interfaces two = {{{100, 255, 65535}, {101, 255, 7}, 
 static void refused(const char *what, struct batman_settings s, struct batman_interfaces f, size_t count)
 {
     memcpy(kept, cells, sizeof cells);
-    expect(what, batman_make(cells, count, s, f), 12);
+    expect(what, seen(batman_make(cells, count, s, f)), BATMAN_NOT_ALLOWED);
     expect("a refused make changed a cell", memcmp(cells, kept, sizeof cells) != 0, 0);
 }
 
@@ -77,16 +86,18 @@ static void sending(void)
     w = batman_own_packet(cells, CELLS, 1, 5, 2, 0, 0, hna, 5, out, 17);
     expect("the other interface's first number", w.sequence, 7);
     memcpy(kept, cells, sizeof cells);
-    expect("interface 2", batman_own_packet(cells, CELLS, 2, 5, 50, 0, 0, hna, 0, out, 40).number, 2);
-    expect("an earlier time", batman_own_packet(cells, CELLS, 0, 4, 50, 0, 0, hna, 0, out, 40).number, 3);
-    expect("an output too short", batman_own_packet(cells, CELLS, 0, 5, 50, 0, 0, hna, 5, out, 16).number, 4);
-    expect("an empty output", batman_own_packet(cells, CELLS, 0, 5, 50, 0, 0, hna, 0, NULL, 0).number, 4);
-    expect("four HNA octets", batman_own_packet(cells, CELLS, 0, 5, 50, 0, 0, hna, 4, out, 40).number, 7);
+    expect("interface 2", seen(batman_own_packet(cells, CELLS, 2, 5, 50, 0, 0, hna, 0, out, 40).number), BATMAN_NOT_IN_USE);
+    expect("an earlier time", seen(batman_own_packet(cells, CELLS, 0, 4, 50, 0, 0, hna, 0, out, 40).number), BATMAN_TIME_BEFORE);
+    expect("an output too short", batman_own_packet(cells, CELLS, 0, 5, 50, 0, 0, hna, 5, out, 16).number, BATMAN_SHORT_OUTPUT);
+    expect("an empty output", batman_own_packet(cells, CELLS, 0, 5, 50, 0, 0, hna, 0, NULL, 0).number, BATMAN_SHORT_OUTPUT);
+    expect("four HNA octets", batman_own_packet(cells, CELLS, 0, 5, 50, 0, 0, hna, 4, out, 40).number, BATMAN_RAGGED_ENTRIES);
     hna[9] = 33;
     w = batman_own_packet(cells, CELLS, 0, 5, 50, 0, 0, hna, 10, out, 40);
-    expect("a mask of 33", w.number, 8);
+    expect("a mask of 33", w.number, BATMAN_WRONG_MASK);
     expect("its place", w.place, 1);
-    expect("TTL 1", batman_own_packet(cells, CELLS, 0, 5, 1, 0, 0, hna, 0, out, 40).number, 13);
+    expect("TTL 1", seen(batman_own_packet(cells, CELLS, 0, 5, 1, 0, 0, hna, 0, out, 40).number), BATMAN_TTL_TOO_LOW);
+    uint8_t many[1465] = {0}, large[1500];
+    expect("1,465 HNA octets", batman_own_packet(cells, CELLS, 0, 5, 50, 0, 0, many, 1465, large, sizeof large).number, BATMAN_WRONG_SIZE);
     expect("a refused own packet changed a cell", memcmp(cells, kept, sizeof cells) != 0, 0);
 }
 
@@ -110,11 +121,129 @@ static void asking_and_sweeping(void)
     expect("a refused call changed a cell", memcmp(cells, kept, sizeof cells) != 0, 0);
 }
 
+/* ---- receiving: a table of its own, two interfaces, room for two originators, link timeout 1,000 */
+
+enum { US = 100, US_TOO = 101, BROADCAST = 255, SMALL = 93 + 22 * 2 };
+
+static uint64_t small[SMALL], small_kept[SMALL];
+static uint8_t output[BATMAN_PACKET_MOST];
+
+/* Hears a message of 12 octets by interface 0 at time 9. */
+static struct batman_received hear(uint32_t sender, uint32_t originator, uint16_t number, uint8_t flags, uint8_t ttl)
+{
+    uint8_t packet[BATMAN_HEADER_SIZE] = {4, flags, ttl, 0, (uint8_t)(number >> 8), (uint8_t)number, 0, 0, 0, 0, (uint8_t)(originator >> 8), (uint8_t)originator};
+    return batman_receive(small, SMALL, packet, sizeof packet, sender, 0, 9, output, sizeof output);
+}
+
+/* One packet as it stands, refused with nothing changed. */
+static void turned_away(const char *what, const uint8_t *packet, size_t length, uint64_t interface, uint64_t time, size_t room, uint64_t number, uint64_t place)
+{
+    memcpy(small_kept, small, sizeof small);
+    memset(output, 238, sizeof output);
+    struct batman_received r = batman_receive(small, SMALL, packet, length, 7, interface, time, output, room);
+    expect(what, seen(r.number), number);
+    expect("its place", r.place, place);
+    expect("another field of a refusal", r.flags + r.route.neighbour + r.route.interface + r.route.count + r.route.window, 0);
+    expect("a refused packet changed a cell", memcmp(small, small_kept, sizeof small) != 0, 0);
+    for (size_t i = 0; i < sizeof output; i++)
+        expect("a refused packet wrote an octet", output[i], 238);
+}
+
+static void packets_refused(void)
+{
+    uint8_t packet[1500] = {4, 0, 50, 0, 0, 1, 0, 0, 0, 0, 3, 132};
+    turned_away("an interface not in use", packet, 12, 2, 9, 12, BATMAN_NOT_IN_USE, 0);
+    turned_away("a time before the table's", packet, 12, 0, 8, 12, BATMAN_TIME_BEFORE, 0);
+    turned_away("an output shorter than the packet", packet, 12, 0, 9, 11, BATMAN_SHORT_OUTPUT, 0);
+    turned_away("11 octets", packet, 11, 0, 9, 12, BATMAN_WRONG_SIZE, 0);
+    turned_away("16 octets", packet, 16, 0, 9, 16, BATMAN_RAGGED_ENTRIES, 0);
+    packet[21] = 33;
+    turned_away("a mask of 33", packet, 22, 0, 9, 22, BATMAN_WRONG_MASK, 1);
+    packet[0] = 5;
+    turned_away("version 5", packet, 22, 0, 9, 22, BATMAN_WRONG_VERSION, 0);
+    small[0] = 256;
+    turned_away("a table not well-formed", packet, 22, 9, 0, 0, BATMAN_NOT_WELL_FORMED, 0);
+    small[0] = 4;
+}
+
+/* Eight links of originator 900, rising by neighbour, the seventh heard first; and fewer rows, another originator, another table. */
+static void listing(void)
+{
+    struct batman_link_row rows[BATMAN_LINKS_MOST + 1], before[BATMAN_LINKS_MOST + 1];
+    memset(rows, 238, sizeof rows);
+    memcpy(before, rows, sizeof rows);
+    expect("seven rows for eight links", batman_list(small, SMALL, 900, rows, 7).number, BATMAN_SHORT_OUTPUT);
+    expect("an unknown originator", batman_list(small, SMALL, 902, rows, 0).filled, 0);
+    expect("a list of other cells", batman_list(small, SMALL - 1, 900, rows, 9).number, BATMAN_NOT_WELL_FORMED);
+    expect("a list that filled nothing changed a row", memcmp(rows, before, sizeof rows) != 0, 0);
+    struct batman_listed l = batman_list(small, SMALL, 900, rows, BATMAN_LINKS_MOST + 1);
+    expect("list", l.number, 0);
+    expect("rows filled", l.filled, BATMAN_LINKS_MOST);
+    for (uint32_t i = 0; i < l.filled; i++) {
+        expect("a row's neighbour", rows[i].neighbour, i + 1);
+        expect("a row's interface", rows[i].interface, 0);
+        expect("a row's count", rows[i].count, 1);
+        expect("a row's window", rows[i].window, 64);
+        expect("a row that is best", rows[i].best, i + 1 == batman_best(small, SMALL, 900).route.neighbour);
+    }
+    expect("the row behind", memcmp(&rows[BATMAN_LINKS_MOST], &before[BATMAN_LINKS_MOST], sizeof rows[0]) != 0, 0);
+}
+
+static void verdicts(void)
+{
+    struct batman_settings s = {4, 64, 1000, 640000, 2};
+    expect("make", batman_make(small, SMALL, s, two), 0);
+    expect("own packet", batman_own_packet(small, SMALL, 0, 9, 50, 0, 0, NULL, 0, output, sizeof output).sequence, 65535);
+
+    expect("from one of our addresses", seen(hear(US_TOO, 900, 1, 0, 50).number), BATMAN_OWN_SENDER);
+    expect("from one of our broadcast addresses", seen(hear(BROADCAST, 900, 1, 0, 50).number), BATMAN_OWN_BROADCAST);
+    expect("our own packet, D not set", seen(hear(7, US, 65535, 0, 50).number), BATMAN_OWN_ORIGINATOR);
+    expect("from a neighbour, before its echo", seen(hear(7, 7, 1, 0, 50).number), BATMAN_PASSED_ON);
+    expect("U and D of its copy", output[1], 192);
+    expect("the copy's TTL", output[2], 49);
+    expect("no route yet", batman_best(small, SMALL, 7).route.window, 0);
+    for (uint32_t neighbour = 1; neighbour <= BATMAN_NEIGHBOURS_MOST; neighbour++)
+        expect("an echo", seen(hear(neighbour, US, 65535, 64, 50).number), BATMAN_ECHO);
+    expect("a 33rd neighbour row", seen(hear(33, US, 65535, 64, 50).number), BATMAN_NEIGHBOURS_FULL);
+    expect("U set", seen(hear(7, 900, 1, 128, 50).number), BATMAN_UNIDIRECTIONAL);
+
+    struct batman_received r = hear(7, 900, 1, 69, 50);
+    expect("counted and passed on", r.number, BATMAN_PASSED_ON);
+    expect("octet 1 elsewhere", r.flags, 5);
+    expect("the route's neighbour", r.route.neighbour, 7);
+    expect("its count", r.route.count, 1);
+    expect("its window", r.route.window, 64);
+    expect("TTL 1, counted and kept", seen(hear(8, 900, 1, 0, 1).number), BATMAN_KEPT);
+    for (uint32_t neighbour = 1; neighbour <= 6; neighbour++)
+        hear(neighbour, 900, 1, 0, 50);
+    memcpy(small_kept, small, sizeof small);
+    expect("a ninth link", seen(hear(9, 900, 1, 0, 50).number), BATMAN_LINKS_FULL);
+    expect("a refused ninth link changed a cell", memcmp(small, small_kept, sizeof small) != 0, 0);
+    expect("a second originator", hear(7, 901, 1, 0, 50).number, BATMAN_PASSED_ON);
+    memcpy(small_kept, small, sizeof small);
+    expect("a third originator", seen(hear(7, 902, 1, 0, 50).number), BATMAN_ORIGINATORS_FULL);
+    expect("a refused message changed a cell", memcmp(small, small_kept, sizeof small) != 0, 0);
+    listing();
+    packets_refused();
+    struct batman_swept swept = batman_sweep(small, SMALL, 640010);
+    expect("swept", swept.removed, 2);
+}
+
+/* Every refusal and every verdict. */
+static void all_came_up(void)
+{
+    for (int n = BATMAN_NOT_WELL_FORMED; n <= BATMAN_PASSED_ON; n++)
+        if (n <= BATMAN_TTL_TOO_LOW || n >= BATMAN_OWN_SENDER)
+            expect("a number that never came up", (uint64_t)(came_up[n] ? 0 : n), 0);
+}
+
 int main(void)
 {
     making();
     sending();
     asking_and_sweeping();
+    verdicts();
+    all_came_up();
     printf("calls: %lu answers and cells compared; %lu differ\n", compared, differing);
     return differing != 0;
 }

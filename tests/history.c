@@ -7,19 +7,11 @@
 
 #include "batman.h"
 #include "book.h"
+#include "random.h"
 
-enum { HISTORIES = 1500, CALLS = 260, OUTPUT = 64, LENT = 5725 };
+enum { HISTORIES = 1500, CALLS = 260, OUTPUT = 64, LENT = BATMAN_CELLS_MOST, ROWS = BATMAN_LINKS_MOST + 2 };
 
 static unsigned long calls, differing, by_number[32];
-static uint64_t state = 88172645463325252u;
-
-static uint64_t next(void) /* xorshift: the same histories on every machine */
-{
-    state ^= state << 13;
-    state ^= state >> 7;
-    state ^= state << 17;
-    return state;
-}
 
 static uint64_t below(uint64_t n) { return next() % n; }
 
@@ -200,6 +192,25 @@ static void best(unsigned history, unsigned call)
         report("the best question changed a cell", history, call, a.number, b.number);
 }
 
+/* With a row more or fewer than the links, most often as many as ever needed. */
+static void list(unsigned history, unsigned call)
+{
+    struct batman_link_row rows[ROWS], theirs_rows[ROWS];
+    uint32_t originator = (uint32_t)(1 + below(9));
+    size_t room = below(3) ? ROWS : below(ROWS);
+    memset(rows, 238, sizeof rows);
+    memset(theirs_rows, 238, sizeof theirs_rows);
+    lend();
+    struct batman_listed a = batman_list(cells, lent, originator, rows, room), b = book_list(&book, originator, theirs_rows, room);
+    if (a.number != b.number || a.filled != b.filled)
+        report("list", history, call, a.number, b.number);
+    if (memcmp(rows, theirs_rows, sizeof rows))
+        report("list's rows", history, call, a.number, b.number);
+    after("list", history, call, a.number);
+    if (memcmp(cells, before, sizeof cells))
+        report("the list call changed a cell", history, call, a.number, b.number);
+}
+
 static void make(unsigned history, unsigned call)
 {
     struct batman_settings s = settings_drawn();
@@ -265,8 +276,10 @@ int main(void)
                 own(history, call);
             else if (kind < 88)
                 sweep(history, call);
-            else if (kind < 98)
+            else if (kind < 93)
                 best(history, call);
+            else if (kind < 98)
+                list(history, call);
             else if (below(3) == 0)
                 make(history, call);
         }

@@ -6,6 +6,7 @@
 #include <string.h>
 
 #include "batman.h"
+#include "random.h"
 
 enum { LONGEST = 1480, RANDOM_PACKETS = 1200000 };
 
@@ -37,16 +38,6 @@ static void compare(const uint8_t *packet, size_t length, uint64_t version)
     compared++;
     if (is != should && differing++ < 10)
         printf("packet check: %zu octets, version %" PRIu64 ": answers %" PRIu64 ", expected %" PRIu64 "\n", length, version, is, should);
-}
-
-static uint64_t state = 88172645463325252u;
-
-static uint64_t next(void) /* xorshift: the same packets on every machine */
-{
-    state ^= state << 13;
-    state ^= state >> 7;
-    state ^= state << 17;
-    return state;
 }
 
 /* A packet without fault of version 4 and this length, with masks up to 32. */

@@ -1,6 +1,8 @@
 // The C interface: each function here is exported from the archive, and none has a `requires`.
 use rules::Asked;
 use rules::Interface;
+use rules::LinkRow;
+use rules::Listed;
 use rules::Received;
 use rules::Settings;
 use rules::Swept;
@@ -97,4 +99,18 @@ pub extern "C" fn batman_best(cells: &[u64], originator: u32) -> Asked
     ensures { λ r. ⌜ (callOn (now (cells .entry)) (C.ask originator) .reply ≡ C.answered (C.asked r)) × (callOn (now (cells .entry)) (C.ask originator) .cells ≡ now (cells .entry)) ⌝ }
 {
     routing::best::best(cells, originator)
+}
+
+// Fills the caller's rows, one for each link held to an originator, in table order. Further rows stay as they are.
+#[no_mangle]
+pub extern "C" fn batman_list(cells: &[u64], originator: u32, rows: &mut [LinkRow]) -> Listed
+    ensures { λ r. ⌜ (callOn (now (cells .entry)) (C.list originator (now (rows .entry))) .reply ≡ record { answer = C.listed r; output = []; rows = now (rows .exit) }) × (callOn (now (cells .entry)) (C.list originator (now (rows .entry))) .cells ≡ now (cells .entry)) ⌝ }
+{
+    let room = rows.len();
+    let got = listing::links_of(cells, originator, room);
+    listing::fill_rows(rows, got);
+    Listed {
+        number: got.number,
+        filled: got.n as u64,
+    }
 }

@@ -81,7 +81,7 @@ abbrev pub one : TableRecord
 one = recordWith 8 10 20 0 ((20, 10 ∷ []) ∷ [])
 
 abbrev pub blank : LinkRow
-blank = record { neighbour = 9; interface = 9; count = 9; window = 9; best = false }
+blank = record { neighbour = 9; interface = 9; count = 9; window = 9; best = 0 }
 
 -- ---- the table
 

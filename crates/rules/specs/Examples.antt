@@ -102,7 +102,7 @@ answerShown (listed a) = a .number ∷ a .filled ∷ []
 
 abbrev pub rowsShown : List LinkRow → List ℕ
 rowsShown [] = []
-rowsShown (r ∷ rs) = r .neighbour ∷ r .interface ∷ r .count ∷ r .window ∷ cond (r .best) 1 0 ∷ rowsShown rs
+rowsShown (r ∷ rs) = r .neighbour ∷ r .interface ∷ r .count ∷ r .window ∷ r .best ∷ rowsShown rs
 
 -- calls one after the other on a table of so many cells
 abbrev pub played : (W : Words) (cells : ℕ) → StateOf W → List Call → List ℕ

@@ -1,7 +1,7 @@
 -- Document 01, "Receiving, in order", "The other calls" and "Numbers for what is turned away", said once.
 -- What the rules ask of a state (duplicate, best, count, neighbour row ..) is a record of words. The table and the book each read them their way.
 use Prim.Native.Nat.{ℕ, _+_, _-_, _%_}
-use mathlib.Core.Bool.{Bool, true, false, _&&_, _||_, not}
+use mathlib.Core.Bool.{Bool, true, false, cond, _&&_, _||_, not}
 use mathlib.Core.Option.{Option, none, some}
 use mathlib.Core.List.{List, [], _∷_, map}
 use lib.Dec.{ltb, leb, eqb}
@@ -238,7 +238,7 @@ module _ (W : Words) where
         interface = interfaceOf (e .0);
         count = e .1;
         window = κ .settings .window;
-        best = eqb (e .0) (W .best κ a);
+        best = cond (eqb (e .0) (W .best κ a)) 1 0;
       }) (W .links κ a))
 
   unfoldable pub answerBest : StateOf → Option (W .Record) → OutcomeOf

@@ -32,14 +32,14 @@ pub struct Route {
     pub window: u32,
 }
 
-// A row of the list call: one held link.
+// A row of the list call: one held link. `best` is 1 or 0 and no bool, so that a caller may lend rows that hold anything.
 #[repr(C)]
 pub struct LinkRow {
     pub neighbour: u32,
     pub interface: u32,
     pub count: u32,
     pub window: u32,
-    pub best: bool,
+    pub best: u32,
 }
 
 // The answer to a received packet: a refusal or verdict, the place that 8 carries, the flags octet for the other

@@ -1,0 +1,69 @@
+use borrow.Author.Needs.{needs}
+use mathlib.Core.Path.{refl, sym, ap, _∙_, subst}
+use mathlib.Core.List.{List}
+use mathlib.Core.Option.{Option, some}
+use Prim.Native.Nat.{ℕ}
+use native.Mathlib.Omega.{arith}
+use Rattle.cells.proofs.Lent.{part-is}
+use Rattle.rules.specs.Settings.{recordCells}
+use Rattle.rules.specs.Rules.{linkRows}
+use Rattle.rules.specs.Table.{TableRecord, table}
+use Rattle.record.specs.Record.{decodeRecord}
+use Rattle.layout.specs.Cells.{decode}
+use Rattle.originators.specs.Originators.{recordPlace, Stands, RecordFound}
+use Rattle.listing.specs.Listing.{Listable, Finds}
+use Rattle.listing.proofs.Answers.{listable, none-found}
+use Rattle.listing.proofs.held_links.Statement.{statement}
+use Rattle.listing.proofs.held_links.Tie as tie
+
+-- the record stands at place i
+stands : (c : tie.After-f) → Stands (c .before .before .before .before .args .cells .now) (c .before .before .before .before .args .originator) (c .f .given .0 .0)
+stands c =
+    let a = c .before .before .before .before .args in
+    subst (RecordFound (a .cells .now) (a .originator)) (c .f .given .1) (c .before .before .find-record .ensures)
+
+rows-of-requires : tie.Need-rows-of-requires
+rows-of-requires c κs =
+    let f = c .before .before .before in
+    let a = f .before .before .before .before .args in
+    let t = stands f in
+    subst Listable (sym (part-is (a .cells .now) (recordPlace (f .f .given .0 .0)) recordCells (t .holds .fits))) (listable (a .cells .now) (a .originator) (f .f .given .0 .0) t)
+
+returns : tie.Need-returns
+unfolding decode
+returns c =
+    let f = c .before .before .before .before in
+    let a = f .before .before .before .before .args in
+    let xs = a .cells .now in
+    let t = stands f in
+    subst (λ (x : Option TableRecord). Finds (linkRows table (decode xs .config) x) (c .rows-of .result))
+    (ap (λ (row : List ℕ). some (decodeRecord row .1)) (part-is xs (recordPlace (f .f .given .0 .0)) recordCells (t .holds .fits)) ∙ sym (t .found))
+    (c .rows-of .ensures (decode xs .config) refl)
+
+returns-2 : tie.Need-returns-2
+returns-2 c =
+    let o = c .before in
+    let a = o .before .before .before .before .args in
+    let m = subst (RecordFound (a .cells .now) (a .originator)) (o .enum-told .given .1) (o .before .before .find-record .ensures) in
+    subst (λ (x : Option TableRecord). Finds (linkRows table (decode (a .cells .now) .config) x) (c .no-links .result)) (sym (m .none)) (none-found (c .no-links .result) (c .no-links .ensures))
+
+pub held-links-spec : {M : Type 1} → statement M
+held-links-spec =
+    tie.close
+    (tie.spec
+    (λ c κs. search needs)
+    (λ c. search needs)
+    (λ c. omega (arith, stands (c .before) .holds .fits))
+    (λ c. omega (arith, stands (c .before) .holds .fits))
+    (λ c. omega (arith, stands (c .before) .holds .fits))
+    (λ c. omega (arith, stands (c .before) .holds .fits))
+    (λ c. search needs)
+    (λ c. search needs)
+    (λ c. omega (arith, stands (c .before) .holds .fits))
+    (λ c. search needs)
+    (λ c. search needs)
+    rows-of-requires
+    (λ c. search needs)
+    (λ c κs. search needs)
+    returns
+    returns-2)

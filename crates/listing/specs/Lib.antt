@@ -1,0 +1,2 @@
+-- The list call.
+pub mod Listing

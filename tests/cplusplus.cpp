@@ -1,0 +1,30 @@
+// The header and the archive are usable from C++: every function is called once.
+#include "batman.h"
+
+#include <cstdio>
+#include <vector>
+
+int main()
+{
+    batman_settings settings = {4, 64, 32, 640000, 2};
+    batman_interfaces interfaces = {};
+    interfaces.row[0] = {100, 255, 7};
+    interfaces.used = 1;
+    std::vector<uint64_t> cells(batman_cells_needed(settings.capacity));
+    std::vector<uint8_t> output(BATMAN_PACKET_MOST);
+    std::vector<batman_link_row> rows(BATMAN_LINKS_MOST);
+
+    bool right = batman_make(cells.data(), cells.size(), settings, interfaces) == 0;
+    batman_written own = batman_own_packet(cells.data(), cells.size(), 0, 1, 50, 0, 0, nullptr, 0, output.data(), output.size());
+    right = right && own.number == 0 && own.sequence == 7;
+    right = right && batman_packet_check(output.data(), own.length, settings.version) == 0;
+    std::vector<uint8_t> echo(output.begin(), output.begin() + static_cast<long>(own.length));
+    echo[1] = 64;
+    batman_received heard = batman_receive(cells.data(), cells.size(), echo.data(), echo.size(), 5, 0, 2, output.data(), output.size());
+    right = right && heard.number == BATMAN_ECHO;
+    right = right && batman_best(cells.data(), cells.size(), 5).number == 0;
+    right = right && batman_list(cells.data(), cells.size(), 5, rows.data(), rows.size()).filled == 0;
+    right = right && batman_sweep(cells.data(), cells.size(), 3).removed == 0;
+    std::printf("C++: every function called; %s\n", right ? "all as they should" : "one answered wrongly");
+    return right ? 0 : 1;
+}
