@@ -1,4 +1,4 @@
--- The list call by the rules: what is found settles it. Assumes nothing.
+-- The list call by the rules, from what is found. Assumes nothing.
 use Prim.Native.Nat.{ℕ, _+_, _*_, _≤_, _<_}
 use native.Mathlib.Omega.{arith}
 use mathlib.Core.Path.{_≡_, refl, sym, ap, _∙_, subst}
@@ -32,7 +32,7 @@ use Rattle.originators.specs.Originators.{Stands}
 use Rattle.listing.specs.declared.Links.{Links}
 use Rattle.listing.specs.Listing.{Listable, Finds, FindsNone, answerOf, outcome, Settles}
 
--- ---- a record that stands in a well-formed table
+-- ---- a record that stands in a well-formed table: the address of each link is in its range
 
 module _ (c : List ℕ) (o i : ℕ) (s : Stands c o i) where
   pub listable : Listable (recordAt c i)
@@ -61,7 +61,7 @@ module _ (c : List ℕ) (o i : ℕ) (s : Stands c o i) where
 
 -- ---- the call
 
--- no link is a list of none
+-- an unknown originator has zero links
 pub none-found : (got : Links) → FindsNone 0 got → Finds [] got
 none-found got f = record { few = let z = f .size in omega arith; size = f .size; rows = ap (λ (k : ℕ). take k (got .rows)) (f .size); number = f .number }
 
@@ -102,6 +102,7 @@ module _ (c : List ℕ) (o : ℕ) (got : Links) where
           told : (lent : List LinkRow) → length lent ≡ room → callOn c (list o lent) ≡ refused c (list o lent) 4
           told lent e = let z = g .size in goes lent true (lt-ltb (length lent) (length rows) (omega arith)) ∙ (λ j. record { reply = refusal (list o lent) (record { number = 4; place = 0 }); cells = encode-decode c h j })
 
+      -- not refused: the rows found are written
       pub found-settles : got .n ≤ room → Finds rows got → Settles c o room got
       unfolding unless fillRows
       found-settles l f = record { few = f .few; fits = l; call = told }

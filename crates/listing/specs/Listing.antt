@@ -17,7 +17,7 @@ use Rattle.listing.specs.declared.Links.{Links}
 
 -- ---- rows
 
--- what the places hold that no link takes
+-- what stands in a place that no link takes
 abbrev pub zeroRow : LinkRow
 zeroRow = record { neighbour = 0; interface = 0; count = 0; window = 0; best = 0 }
 
@@ -47,6 +47,7 @@ pub record FindsNone (m : ℕ) (got : Links) : Type 0 where
 
 -- ---- the call
 
+-- a refusal or 0, and how many rows are filled
 abbrev pub answerOf : Links → Listed
 answerOf got = record { number = got .number; filled = got .n }
 
@@ -54,7 +55,7 @@ answerOf got = record { number = got .number; filled = got .n }
 abbrev pub outcome : List ℕ → Links → List LinkRow → Done
 outcome c got lent = record { reply = record { answer = listed (answerOf got); output = []; rows = writtenTo (take (got .n) (got .rows)) lent }; cells = c }
 
--- what is found in the cells c is what the call on originator o comes to, for any lent rows of which there are `room`
+-- what is found in the cells c decides the call on originator o: it fits, and the outcome is as above for whichever `room` rows are lent
 pub record Settles (c : List ℕ) (o room : ℕ) (got : Links) : Type 0 where
   pub few : got .n ≤ linkMost
   pub fits : got .n ≤ room

@@ -1,5 +1,5 @@
 -- `listing::fill_rows` meets its contract: a walk of its MIR, by hand, with a loop. The borrow of the slice is opened once, before the loop, and closed once, after it. A turn calls `row_at` for a row and stores it.
--- The invariant: the first i rows are written. Assumes nothing.
+-- The invariant: the first i rows are written. T and L are what is generated of the structs LinkRow and Links. Assumes nothing.
 use mathlib.Core.Path.{_≡_, refl, sym, _∙_, ap, subst}
 use Prim.Native.Nat.{ℕ, zero, suc, _+_, _*_, _≤_, _<_, _^_}
 use native.Mathlib.Nat.{add-zero, lt-suc-self}
