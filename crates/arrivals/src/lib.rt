@@ -65,7 +65,7 @@ pub fn answered(cells: &[u64], number: u64, originator: u32) -> Received
     requires { ⌜ Knows (now cells) ⌝ }
     ensures { λ r. ⌜ r ≡ verdictOf (decode (now (cells .entry))) number originator ⌝ }
 {
-    let route = route_to(cells, originator as u64);
+    let route = route_to(cells, originator);
     Received {
         number,
         place: 0,

@@ -1,9 +1,8 @@
 // The best question.
 use cells::Found;
-use cells::find;
-use layout::RECORDS;
 use layout::RECORDS_FROM;
 use layout::WINDOW;
+use originators::find_record;
 use record::WIDTH;
 use record::route_of;
 use rules::Asked;
@@ -14,7 +13,7 @@ ghost use Rattle.lists.specs.Keyed.{lookup};
 ghost use Rattle.rules.specs.Calls.{ask, asked, answered, noRoute};
 ghost use Rattle.rules.specs.Rules.{routeOf};
 ghost use Rattle.rules.specs.Table.{table};
-ghost use Rattle.layout.specs.Cells.{configIn, recordsIn};
+ghost use Rattle.layout.specs.Cells.{decode};
 ghost use Rattle.layout.specs.Facts.{Knows};
 ghost use Rattle.layout.specs.Calls.{callOn};
 
@@ -34,16 +33,11 @@ pub fn no_route() -> Route
 }
 
 // The route to an originator, in a table that is well-formed.
-pub fn route_to(cells: &[u64], originator: u64) -> Route
+pub fn route_to(cells: &[u64], originator: u32) -> Route
     requires { ⌜ Knows (now cells) ⌝ }
-    ensures { λ r. ⌜ r ≡ routeOf table (configIn (now (cells .entry))) (lookup originator (recordsIn (now (cells .entry)))) ⌝ }
+    ensures { λ r. ⌜ r ≡ routeOf table (decode (now (cells .entry)) .config) (lookup originator (decode (now (cells .entry)) .records)) ⌝ }
 {
-    let f = find(
-        &cells[RECORDS_FROM..],
-        WIDTH,
-        cells[RECORDS] as usize,
-        originator,
-    );
+    let f = find_record(cells, originator);
     match f {
         Found::At(i) => {
             let at = RECORDS_FROM + i * WIDTH;
@@ -66,6 +60,6 @@ pub fn best(cells: &[u64], originator: u32) -> Asked
     }
     Asked {
         number: 0,
-        route: route_to(cells, originator as u64),
+        route: route_to(cells, originator),
     }
 }

@@ -2,7 +2,7 @@ use borrow.Author.Needs.{needs}
 use mathlib.Core.Path.{_≡_, sym, _∙_}
 use mathlib.Core.Bool.{true}
 use borrow.Author.Tests.{not-true, not-false}
-use Rattle.layout.specs.Cells.{wellFormed}
+use Rattle.layout.specs.Cells.{decode, wellFormed}
 use Rattle.table.proofs.Knowing.{knows}
 use Rattle.routing.proofs.Asking.{answer-by, no-answer, answers}
 use Rattle.routing.proofs.best.best.Statement.{statement}
@@ -22,6 +22,7 @@ route-to-requires : tie.Need-route-to-requires
 route-to-requires c κs = knows (c .before .before .before .args .cells .now) (suits c)
 
 returns-2 : tie.Need-returns-2
+unfolding decode
 returns-2 c =
     let a = c .before .before .before .before .args in
     let xs = a .cells .now in
