@@ -6,10 +6,10 @@ use Prim.Native.Nat.{ℕ, zero, suc, _+_, _*_, _-_, _≤_, _<_, zero-le}
 use native.Mathlib.Nat.{suc-mul, add-zero, zero-mul, not-suc-le-zero, le-of-suc-le-suc}
 use native.Mathlib.Omega.{arith}
 use native.Mathlib.Numerals.{add-one}
-use lib.Dec.{leb, ltb}
+use lib.Dec.{leb, ltb, eqb}
 use lib.ListN.{length, take, drop, getD}
 use lib.Seq.{drop-cons, getD-drop, getD-take, drop-drop, drop-length}
-use borrow.Author.Tests.{le-leb, lt-leb, leb-true, eq-eqb, ne-eqb}
+use borrow.Author.Tests.{le-leb, lt-leb, leb-true}
 use Rattle.lists.specs.Lists.{all}
 use Rattle.lists.specs.Keyed.{rising}
 use Rattle.cells.specs.Area.{allZero, keyOf, rowsOf, column, riseFrom, rise, scan}
@@ -17,11 +17,9 @@ use Rattle.cells.proofs.Trips.{length-decoded}
 
 -- ---- zeros
 
-pub zero-next : (c : List ℕ) (i : ℕ) → i < length c → getD c i 0 ≡ 0 → allZero (drop i c) ≡ allZero (drop (i + 1) c)
-zero-next c i h e = rw (add-one i, drop-cons c i 0 h, eq-eqb (getD c i 0) 0 e)
-
-pub zero-stop : (c : List ℕ) (i : ℕ) → i < length c → (getD c i 0 ≡ 0 → ⊥) → allZero (drop i c) ≡ false
-zero-stop c i h e = rw (drop-cons c i 0 h, ne-eqb (getD c i 0) 0 e)
+pub zero-next : (c : List ℕ) (i : ℕ) → i < length c → (b : Bool) → (b && allZero (drop i c)) ≡ (b && eqb (getD c i 0) 0 && allZero (drop (i + 1) c))
+zero-next c i h true = rw (add-one i, drop-cons c i 0 h)
+zero-next c i h false = refl
 
 pub zero-end : (c : List ℕ) (i : ℕ) → i ≡ length c → allZero (drop i c) ≡ true
 zero-end c i e = ap (λ (k : ℕ). allZero (drop k c)) e ∙ rw (drop-length c)

@@ -6,8 +6,8 @@ use native.Mathlib.Nat.{sub-self, zero-add}
 use native.Mathlib.Omega.{arith}
 use native.Mathlib.Numerals.{add-one}
 use borrow.Rule.Slice.PartMut.{putMid}
-use lib.ListN.{length, take, drop, set, getD, length-append, length-drop, List·getD-append}
-use lib.Seq.{take-suc, drop-cons, append-snoc, set-at, length-take-le, getD-take, getD-drop, take-length, take-at, drop-at, take-append-le, paste, paste-suc, length-paste-head, getD-append-add, take-all, take-take, drop-length}
+use lib.ListN.{length, take, drop, set, getD, take-append-drop, length-append, length-drop, List·getD-append}
+use lib.Seq.{take-suc, drop-cons, append-snoc, set-at, length-take-le, getD-take, getD-drop, take-length, take-at, drop-at, take-append-le, paste, paste-suc, length-paste-head, getD-append-add, take-all, take-add, take-take, drop-length}
 use Rattle.cells.specs.Area.{fit, zeros, written, movedUp, putIn, takenOut}
 use Rattle.cells.proofs.Areas.{fit-at, fit-zeros, length-fit, getD-fit}
 use Rattle.cells.proofs.Lent.{tail-length, tail-back}
@@ -49,6 +49,12 @@ source c from w = take w (drop from c)
 
 pub length-source : (c : List ℕ) (from w : ℕ) → from + w ≤ length c → length (source c from w) ≡ w
 length-source c from w h = length-take-le w (drop from c) (rw (length-drop from c) (omega arith))
+
+-- moved to where they are, they leave everything as it is
+pub still : (c : List ℕ) (at w : ℕ) → at + w ≤ length c → written c at (source c at w) ≡ c
+still c at w h =
+    ap (λ (k : ℕ). take at c ++ source c at w ++ drop (at + k) c) (length-source c at w h)
+    ∙ ap (λ (l : List ℕ). l ++ drop (at + w) c) (sym (take-add at w c)) ∙ take-append-drop (at + w) c
 
 pub down-cell : (c : List ℕ) (from to w j : ℕ) → to ≤ from → from + w ≤ length c → j < w → getD (paste c to (source c from w) j) (from + j) 0 ≡ getD (source c from w) j 0
 down-cell c from to w j ht hf hj =

@@ -56,18 +56,17 @@ pub fn keys_rise(cells: &[u64], w: usize, n: usize) -> bool
     left == 0
 }
 
-// Whether every cell is zero.
+// Whether every cell is zero. No early exit: unused cells nearly always are, and the loop is then done several cells at a time.
 pub fn all_zero(cells: &[u64]) -> bool
     ensures { λ r. ⌜ r ≡ allZero (now (cells .entry)) ⌝ }
 {
+    let mut zero = true;
     let mut i = 0;
     while i < cells.len() {
-        if cells[i] != 0 {
-            break;
-        }
+        zero = zero & (cells[i] == 0);
         i += 1;
     }
-    i == cells.len()
+    zero
 }
 
 // Fills the cells with zeros.
@@ -93,11 +92,14 @@ pub fn write(cells: &mut [u64], at: usize, row: &[u64])
     }
 }
 
-// Moves w cells down, from one place to a lower one; the two may overlap.
+// Moves w cells down, from one place to a lower one; the two may overlap. Where they are one place, nothing is touched.
 pub fn move_down(cells: &mut [u64], from: usize, to: usize, w: usize)
     requires { ⌜ (to ≤ from) × (from + w ≤ length (now cells)) ⌝ }
     ensures { λ _. ⌜ now (cells .exit) ≡ written (now (cells .entry)) to (take w (drop from (now (cells .entry)))) ⌝ }
 {
+    if to == from {
+        return;
+    }
     let mut j = 0;
     while j < w {
         cells[to + j] = cells[from + j];

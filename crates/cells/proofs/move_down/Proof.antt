@@ -5,7 +5,8 @@ use native.Mathlib.Omega.{arith}
 use lib.ListN.{length, getD, length-set}
 use lib.Seq.{paste, paste-zero}
 use mathlib.Core.List.{List}
-use Rattle.cells.proofs.Moves.{paste-turn, paste-done, source, length-source, down-cell}
+use Rattle.cells.specs.Area.{written}
+use Rattle.cells.proofs.Moves.{paste-turn, paste-done, still, source, length-source, down-cell}
 use Rattle.cells.proofs.move_down.Statement.{statement}
 use Rattle.cells.proofs.move_down.Tie as tie
 
@@ -17,13 +18,13 @@ abbrev μ-loop : tie.MeasureT-loop
 
 loop-holds : tie.Need-loop-holds Inv-loop μ-loop
 loop-holds c =
-    let a = c .args in
+    let a = c .before .args in
     (omega arith, refl, paste-zero (a .cells .now) (a .to) (source (a .cells .now) (a .from) (a .w)))
 
 loop-again : tie.Need-loop-again Inv-loop μ-loop
 loop-again c =
     let l = c .before .before .loop in
-    let a = c .before .before .before .args in
+    let a = c .before .before .before .before .args in
     let s = source (a .cells .now) (a .from) (a .w) in
     let v = ap (λ (x : List ℕ). getD x (a .from + l .j) 0) (l .inv .2) ∙ down-cell (a .cells .now) (a .from) (a .to) (a .w) (l .j) (omega arith) (omega arith) (omega arith) in
     (omega arith, simp length-set (l .inv .1), paste-turn (a .cells .now) (l .cells) s (a .to) (l .j) _ (l .inv .2) v (omega arith) (rw (length-source (a .cells .now) (a .from) (a .w) (omega arith)) (omega arith)))
@@ -33,7 +34,12 @@ same-length c = c .before .loop .inv .1
 
 returns : tie.Need-returns Inv-loop μ-loop
 returns c =
-    let a = c .before .before .args in
+    let a = c .before .args in
+    sym (still (a .cells .now) (a .to) (a .w) (search needs)) ∙ ap (λ (k : ℕ). written (a .cells .now) (a .to) (source (a .cells .now) k (a .w))) (c .if1 .taken)
+
+returns-2 : tie.Need-returns-2 Inv-loop μ-loop
+returns-2 c =
+    let a = c .before .before .before .args in
     let s = source (a .cells .now) (a .from) (a .w) in
     c .before .loop .inv .2 ∙ paste-done (a .cells .now) s (a .to) (c .before .loop .j) (sym (length-source (a .cells .now) (a .from) (a .w) (omega arith) ∙ (omega arith)))
 
@@ -43,6 +49,7 @@ move-down-spec =
     (tie.spec
     Inv-loop
     μ-loop
+    returns
     loop-holds
     (λ c. search needs)
     (λ c. search needs)
@@ -54,4 +61,4 @@ move-down-spec =
     (λ c. search needs)
     loop-again
     same-length
-    returns)
+    returns-2)
