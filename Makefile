@@ -5,14 +5,16 @@ WARN = -std=c11 -Wall -Wextra -Werror
 ARCHIVE = target/staticlib/libbatman.a
 BUILD = target/c
 SANITIZE = -fsanitize=address,undefined -fno-sanitize-recover=all
+YARD = demo/yard.c demo/options.c demo/reader.c demo/radio.c demo/svg.c
 TESTED = $(CC) $(CFLAGS) $(WARN) $(SANITIZE) -Iinclude
 
 .PHONY: demo test archive c-tests bench
 
+# A yard of readers over lossy radio: prints how their routes form, and draws those to reader 0.
 demo: archive
 	@mkdir -p $(BUILD)
-	@$(CC) $(CFLAGS) $(WARN) -Iinclude examples/check.c $(ARCHIVE) -o $(BUILD)/check
-	@$(BUILD)/check
+	@$(CC) $(CFLAGS) $(WARN) -Iinclude $(YARD) $(ARCHIVE) -o $(BUILD)/demo
+	@$(BUILD)/demo --svg target/yard.svg
 
 # The archive that a C program links: proved first, then compiled.
 archive:
@@ -35,10 +37,13 @@ c-tests:
 	@$(BUILD)/cplusplus
 	@$(TESTED) examples/check.c $(ARCHIVE) -o $(BUILD)/check
 	@$(BUILD)/check | diff tests/check.expected - && echo "example: prints what it should"
+	@$(TESTED) $(YARD) $(ARCHIVE) -o $(BUILD)/yard
+	@$(BUILD)/yard --columns 3 --rows 3 --rounds 12 --seed 7 | diff tests/yard.expected - && echo "yard: prints what it should"
 	@tools/readme-example README.md > $(BUILD)/readme.c
 	@$(TESTED) $(BUILD)/readme.c $(ARCHIVE) -o $(BUILD)/readme
 	@$(BUILD)/readme | diff tests/readme.expected - && echo "README: its example compiles as printed and prints what it says"
 
-# Speed beside an independent version in C, as a ratio; no test depends on it.
-bench:
+# Speed beside independent versions in C, as a ratio; no test depends on it.
+bench: archive
 	@bench/wellformed/run
+	@bench/calls/run

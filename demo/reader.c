@@ -1,0 +1,125 @@
+#include "reader.h"
+
+#include <inttypes.h>
+#include <stdio.h>
+#include <stdlib.h>
+
+enum { INTERFACE = 0, VERSION = 4, WINDOW = 64, LINK_TIMEOUT = 32, TTL = 50, NO_GATEWAY = 0, NO_PORT = 0, BROADCAST = 0x0a00ffff };
+
+/* An answer that only a fault of this program or of the memory can bring: going on would route by a table that can't be trusted. */
+static _Noreturn void stop(const struct reader *r, const char *call, uint64_t number)
+{
+    fprintf(stderr, "yard: reader %08" PRIx32 ": %s was refused by %" PRIu64 "\n", r->address, call, number);
+    exit(EXIT_FAILURE);
+}
+
+bool reader_open(struct reader *r, uint32_t address, struct reader_settings s)
+{
+    struct batman_settings settings = {
+        .version = VERSION, .window = WINDOW, .timeout = LINK_TIMEOUT, .purge = s.purge, .capacity = s.capacity};
+    struct batman_interfaces interfaces = {.row = {{.own = address, .broadcast = BROADCAST, .first = s.first}}, .used = 1};
+    *r = (struct reader){.address = address, .count = (size_t)batman_cells_needed(s.capacity)};
+    r->cells = calloc(r->count > 0 ? r->count : 1, sizeof *r->cells);
+    if (r->cells == NULL)
+        return false;
+    uint64_t number = batman_make(r->cells, r->count, settings, interfaces);
+    if (number != 0) /* 12: a setting or an interface row that is not allowed */
+        stop(r, "make", number);
+    return true;
+}
+
+void reader_close(struct reader *r)
+{
+    free(r->cells);
+    r->cells = NULL;
+}
+
+size_t reader_own(struct reader *r, uint64_t now, const uint8_t *hna, size_t hna_length, uint8_t *out, size_t room)
+{
+    struct batman_written w =
+        batman_own_packet(r->cells, r->count, INTERFACE, now, TTL, NO_GATEWAY, NO_PORT, hna, hna_length, out, room);
+    switch (w.number) {
+    case 0: return (size_t)w.length;
+    case BATMAN_NOT_WELL_FORMED: /* the table is damaged: a daemon logs it and makes a new one */
+    case BATMAN_NOT_IN_USE: /* the interface is not in use: it was taken down without telling the table */
+    case BATMAN_TIME_BEFORE: /* the clock went back: take a monotonic one */
+    case BATMAN_SHORT_OUTPUT: /* the output is too short for these HNA entries */
+    case BATMAN_WRONG_SIZE: /* more than 292 HNA entries: announce fewer */
+    case BATMAN_RAGGED_ENTRIES: /* HNA octets that are no whole entries */
+    case BATMAN_WRONG_MASK: /* a mask above 32 in the configuration: entry w.place */
+    case BATMAN_TTL_TOO_LOW: /* a TTL below 2 in the configuration */
+    default: stop(r, "an own packet", w.number);
+    }
+}
+
+size_t reader_receive(struct reader *r, uint64_t now, uint32_t sender, const uint8_t *packet, size_t length, uint8_t *out, size_t room)
+{
+    struct batman_received a = batman_receive(r->cells, r->count, packet, length, sender, INTERFACE, now, out, room);
+    if (a.number < READER_ANSWERS)
+        r->answers[a.number]++;
+    switch (a.number) {
+    case BATMAN_NOT_WELL_FORMED: /* the table is damaged: a daemon logs it and makes a new one */
+    case BATMAN_NOT_IN_USE: /* the interface is not in use: close its socket */
+    case BATMAN_TIME_BEFORE: /* the clock went back: take a monotonic one */
+    case BATMAN_SHORT_OUTPUT: /* the output is shorter than the packet: lend 1,472 octets, or as many as the socket gives */
+        stop(r, "a received packet", a.number);
+    case BATMAN_WRONG_SIZE: /* too short or too long for an originator message */
+    case BATMAN_WRONG_VERSION: /* another version of the protocol */
+    case BATMAN_RAGGED_ENTRIES: /* HNA octets that are no whole entries */
+    case BATMAN_WRONG_MASK: /* a mask above 32, in entry a.place */
+        return 0; /* anyone can send such octets: drop them, and log no more than now and then */
+    case BATMAN_NEIGHBOURS_FULL: /* 32 neighbours are held: this one stays unidirectional until another falls silent */
+    case BATMAN_ORIGINATORS_FULL: /* the table is full: drop it; a daemon may sweep and try once more, or make a larger table */
+    case BATMAN_LINKS_FULL: /* eight other links to this originator are held: one more is not needed */
+        return 0;
+    case BATMAN_OWN_SENDER: /* our own transmission, heard by ourselves */
+    case BATMAN_OWN_BROADCAST: /* no sender has a broadcast address: forged, or a broken network stack */
+    case BATMAN_ECHO: /* our last packet came back: from now on this neighbour's link counts as bidirectional */
+    case BATMAN_OWN_ORIGINATOR: /* our own packet by a longer way, or an older one */
+    case BATMAN_UNIDIRECTIONAL: /* it came over a link that works in one direction only: it says nothing of a way back */
+        return 0;
+    case BATMAN_KEPT: /* taken: a daemon compares a.route with the kernel's route to the originator, and changes that where they differ */
+        return 0;
+    case BATMAN_PASSED_ON: /* as 25, and it goes on the air; with more interfaces, on those with a.flags as the copy's octet 1 */
+        return length;
+    default: /* a number that this header doesn't know */
+        stop(r, "a received packet", a.number);
+    }
+}
+
+uint64_t reader_sweep(struct reader *r, uint64_t now)
+{
+    struct batman_swept s = batman_sweep(r->cells, r->count, now);
+    if (s.number != 0) /* 1: the table is damaged; 3: the clock went back */
+        stop(r, "a sweep", s.number);
+    return s.removed; /* where any were, a daemon asks for each route that it has set, and takes out those that are gone */
+}
+
+struct batman_route reader_route(const struct reader *r, uint32_t originator)
+{
+    struct batman_asked a = batman_best(r->cells, r->count, originator);
+    if (a.number != 0) /* 1: the table is damaged */
+        stop(r, "a best question", a.number);
+    return a.route;
+}
+
+const char *reader_meaning(unsigned number)
+{
+    switch (number) {
+    case BATMAN_WRONG_SIZE: return "refused: wrong size";
+    case BATMAN_WRONG_VERSION: return "refused: another version";
+    case BATMAN_RAGGED_ENTRIES: return "refused: ragged HNA entries";
+    case BATMAN_WRONG_MASK: return "refused: a mask above 32";
+    case BATMAN_NEIGHBOURS_FULL: return "refused: 32 neighbours are held";
+    case BATMAN_ORIGINATORS_FULL: return "refused: the table is full";
+    case BATMAN_LINKS_FULL: return "refused: 8 other links are held";
+    case BATMAN_OWN_SENDER: return "from our own address";
+    case BATMAN_OWN_BROADCAST: return "from a broadcast address";
+    case BATMAN_ECHO: return "our own, straight back: the link is bidirectional";
+    case BATMAN_OWN_ORIGINATOR: return "our own, by another way";
+    case BATMAN_UNIDIRECTIONAL: return "over a link of one direction";
+    case BATMAN_KEPT: return "taken, not passed on";
+    case BATMAN_PASSED_ON: return "taken and passed on";
+    default: return "unknown";
+    }
+}
