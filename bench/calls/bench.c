@@ -1,0 +1,396 @@
+/* Times the library's calls beside two versions in C, in short slices that take turns, after it has seen that all answer alike. */
+#define _POSIX_C_SOURCE 200809L
+
+#include <inttypes.h>
+#include <stdio.h>
+#include <stdlib.h>
+#include <string.h>
+#include <time.h>
+
+#include "../../demo/random.h"
+#include "calls.h"
+
+enum {
+    VERSIONS = 5,
+    COMPARED = 200000, /* calls */
+    SLICES = 61,       /* of which the median is taken */
+    LINKS = 8,
+    MOST = 256,        /* originators */
+    CALLS_MOST = 1024, /* in a slice */
+    COPIES_MOST = 32,
+    PACKET = 12 + 5 * 10,
+    PURGE = 2000000000,
+    FILLING = 100 /* numbers of each originator before anything is timed */
+};
+
+static const struct version *const versions[VERSIONS] = {&proved, &cells_clang, &cells_gcc, &plain_clang, &plain_gcc};
+
+static const uint8_t hna[] = {10, 7, 0, 0, 16, 192, 168, 4, 0, 24};
+
+struct arrival {
+    uint8_t packet[12 + sizeof hna];
+    uint32_t sender;
+    uint64_t interface, time;
+};
+
+/* What a slice plays, the same for every version. */
+struct slice {
+    struct arrival arrival[CALLS_MOST];
+    unsigned calls;
+    uint64_t time;
+};
+
+/* A mesh with its tables, one for each version, and copies of them for calls that can be made only once. */
+struct mesh {
+    unsigned originators, calls, copies;
+    size_t count;
+    uint64_t time, random;
+    uint16_t sequence[MOST];
+    uint8_t heard[MOST]; /* the links that have brought the current number, a bit each */
+    void *table[VERSIONS], *copy[VERSIONS][COPIES_MOST];
+};
+
+static void stop(const char *why)
+{
+    printf("calls: %s\n", why);
+    exit(EXIT_FAILURE);
+}
+
+static uint64_t below(struct mesh *m, uint64_t n) { return random_below(&m->random, n); }
+
+/* The first eight originators are the neighbours, by two interfaces in turn. */
+static uint32_t address_of(unsigned originator) { return 0x0a010001u + originator * 259; }
+static uint64_t interface_of(unsigned neighbour) { return neighbour % 2; }
+
+/* ---- arrivals */
+
+static struct arrival arrive(struct mesh *m, uint32_t originator, uint16_t sequence, unsigned neighbour, uint8_t flags)
+{
+    struct arrival a = {{4, flags, (uint8_t)(40 + below(m, 4)), 0, (uint8_t)(sequence >> 8), (uint8_t)sequence, 0, 0, (uint8_t)(originator >> 24),
+                         (uint8_t)(originator >> 16), (uint8_t)(originator >> 8), (uint8_t)originator},
+                        address_of(neighbour), interface_of(neighbour), ++m->time};
+    memcpy(a.packet + 12, hna, sizeof hna);
+    return a;
+}
+
+/* A number that comes again by a link that hasn't brought it yet, the first ones rather; after some, the next number. */
+static struct arrival relayed(struct mesh *m, unsigned o)
+{
+    unsigned link = (unsigned)below(m, LINKS), other = (unsigned)below(m, LINKS);
+    if (m->heard[o] == 255 || below(m, 6) == 0) {
+        m->heard[o] = 0;
+        m->sequence[o]++;
+    }
+    link = link < other ? link : other;
+    while (m->heard[o] >> link & 1)
+        link = (link + 1) % LINKS;
+    m->heard[o] |= (uint8_t)(1u << link);
+    return arrive(m, address_of(o), m->sequence[o], link, 0);
+}
+
+/* A neighbour's own packet. */
+static struct arrival direct(struct mesh *m, unsigned o)
+{
+    m->heard[o] = (uint8_t)(1u << o);
+    return arrive(m, address_of(o), ++m->sequence[o], o, 0);
+}
+
+static struct batman_received take(const struct version *v, void *table, size_t count, const struct arrival *a)
+{
+    uint8_t out[sizeof a->packet];
+    return v->receive(table, count, a->packet, sizeof a->packet, a->sender, a->interface, a->time, out, sizeof out);
+}
+
+static void take_all(struct mesh *m, const struct arrival *a)
+{
+    for (int v = 0; v < VERSIONS; v++)
+        if (take(versions[v], m->table[v], m->count, a).number < 22)
+            stop("a packet was refused while the tables were filled");
+}
+
+/* Own packets of both interfaces, and their echoes by every neighbour. */
+static void echo_all(struct mesh *m)
+{
+    for (uint64_t i = 0; i < 2; i++) {
+        struct batman_written w = {0, 0, 0, 0};
+        uint8_t out[12];
+        for (int v = 0; v < VERSIONS; v++)
+            w = versions[v]->own_packet(m->table[v], m->count, i, m->time, 50, 0, 0, hna, 0, out, sizeof out);
+        for (unsigned n = 0; n < LINKS; n++) {
+            struct arrival a = arrive(m, 0x0a020001u + (uint32_t)i, w.sequence, n, 64);
+            if (interface_of(n) == i)
+                take_all(m, &a);
+        }
+    }
+}
+
+static void hear_round(struct mesh *m, unsigned without)
+{
+    for (unsigned o = 0; o < m->originators; o++)
+        for (int i = 0; o != without && i < LINKS - 3; i++) {
+            struct arrival a = relayed(m, o);
+            take_all(m, &a);
+        }
+}
+
+/* ---- the mesh */
+
+static void open_mesh(struct mesh *m, unsigned originators)
+{
+    struct batman_settings s = {.version = 4, .window = 64, .timeout = 1000, .purge = PURGE, .capacity = originators};
+    struct batman_interfaces f = {.row = {{0x0a020001, 0x0a02ffff, 1}, {0x0a020002, 0x0a02ffff, 1}}, .used = 2};
+    *m = (struct mesh){.originators = originators, .calls = originators > 64 ? 256 : originators > 16 ? 512 : CALLS_MOST,
+                       .copies = originators > 64 ? 8 : originators > 16 ? 16 : COPIES_MOST, .random = random_seeded(originators)};
+    m->count = (size_t)batman_cells_needed(originators);
+    for (int v = 0; v < VERSIONS; v++) {
+        size_t size = versions[v]->size(originators);
+        m->table[v] = malloc(size);
+        if (m->table[v] == NULL || versions[v]->make(m->table[v], m->count, s, f) != 0)
+            stop("no table could be made");
+        for (unsigned i = 0; i < m->copies; i++)
+            if ((m->copy[v][i] = malloc(size)) == NULL)
+                stop("no memory");
+    }
+    echo_all(m);
+    for (int i = 0; i < FILLING; i++)
+        hear_round(m, originators);
+}
+
+static void close_mesh(struct mesh *m)
+{
+    for (int v = 0; v < VERSIONS; v++) {
+        free(m->table[v]);
+        for (unsigned i = 0; i < m->copies; i++)
+            free(m->copy[v][i]);
+    }
+}
+
+static void copy_tables(struct mesh *m, int v)
+{
+    for (unsigned i = 0; i < m->copies; i++)
+        memcpy(m->copy[v][i], m->table[v], versions[v]->size(m->originators));
+}
+
+/* ---- what is timed: each plays a slice on one version, and answers a sum over the answers */
+
+typedef uint64_t play(const struct version *v, struct mesh *m, int place, const struct slice *s);
+
+static uint64_t sum_of(struct batman_received r) { return r.number * 64 + r.route.count; }
+
+static uint64_t play_receive(const struct version *v, struct mesh *m, int place, const struct slice *s)
+{
+    uint64_t sum = 0;
+    for (unsigned i = 0; i < s->calls; i++)
+        sum += sum_of(take(v, m->table[place], m->count, &s->arrival[i]));
+    return sum;
+}
+
+static uint64_t play_first(const struct version *v, struct mesh *m, int place, const struct slice *s)
+{
+    uint64_t sum = 0;
+    for (unsigned i = 0; i < s->calls; i++)
+        sum += sum_of(take(v, m->copy[place][i], m->count, &s->arrival[0]));
+    return sum;
+}
+
+static uint64_t play_own(const struct version *v, struct mesh *m, int place, const struct slice *s)
+{
+    uint8_t out[12 + sizeof hna];
+    uint64_t sum = 0;
+    for (unsigned i = 0; i < s->calls; i++)
+        sum += v->own_packet(m->table[place], m->count, 0, s->time, 50, 0, 0, hna, sizeof hna, out, sizeof out).sequence + out[5];
+    return sum;
+}
+
+static uint64_t play_sweep(const struct version *v, struct mesh *m, int place, const struct slice *s)
+{
+    uint64_t sum = 0;
+    for (unsigned i = 0; i < s->calls; i++) {
+        struct batman_swept a = v->sweep(m->table[place], m->count, s->time);
+        sum += a.number + a.removed;
+    }
+    return sum;
+}
+
+static uint64_t play_sweep_one(const struct version *v, struct mesh *m, int place, const struct slice *s)
+{
+    uint64_t sum = 0;
+    for (unsigned i = 0; i < s->calls; i++)
+        sum += v->sweep(m->copy[place][i], m->count, s->time).removed;
+    return sum;
+}
+
+static uint64_t play_best(const struct version *v, struct mesh *m, int place, const struct slice *s)
+{
+    uint64_t sum = 0;
+    for (unsigned i = 0; i < s->calls; i++)
+        sum += v->best(m->table[place], m->count, address_of(i * 7 % m->originators)).route.count;
+    return sum;
+}
+
+static uint64_t play_check(const struct version *v, struct mesh *m, int place, const struct slice *s)
+{
+    static const uint8_t packet[PACKET] = {4, 0, 50};
+    uint64_t sum = 0;
+    (void)m, (void)place;
+    for (unsigned i = 0; i < s->calls; i++)
+        sum += v->packet_check(packet, sizeof packet, 4);
+    return sum;
+}
+
+/* ---- slices */
+
+typedef void prepare(struct mesh *m, struct slice *s);
+
+static void prepare_relayed(struct mesh *m, struct slice *s)
+{
+    for (unsigned i = 0; i < s->calls; i++)
+        s->arrival[i] = relayed(m, (unsigned)below(m, m->originators));
+}
+
+static void prepare_direct(struct mesh *m, struct slice *s)
+{
+    for (unsigned i = 0; i < s->calls; i++)
+        s->arrival[i] = direct(m, (unsigned)below(m, m->originators < LINKS ? m->originators : LINKS));
+}
+
+/* Echoes keep the neighbour rows, however many own packets have gone out. */
+static void prepare_time(struct mesh *m, struct slice *s)
+{
+    echo_all(m);
+    s->time = m->time;
+}
+
+static void prepare_copies(struct mesh *m, struct slice *s)
+{
+    for (int v = 0; v < VERSIONS; v++)
+        copy_tables(m, v);
+    s->calls = m->copies;
+    s->time = m->time;
+    s->arrival[0] = arrive(m, address_of(m->originators / 2), m->sequence[m->originators / 2], 0, 0);
+}
+
+/* ---- timing */
+
+struct row {
+    const char *name;
+    prepare *prepare;
+    play *play;
+};
+
+static double nanoseconds(void)
+{
+    struct timespec t;
+    clock_gettime(CLOCK_MONOTONIC, &t);
+    return (double)t.tv_sec * 1e9 + (double)t.tv_nsec;
+}
+
+static int by_size(const void *a, const void *b)
+{
+    double x = *(const double *)a, y = *(const double *)b;
+    return (x > y) - (x < y);
+}
+
+static double median(double *x, int n)
+{
+    qsort(x, (size_t)n, sizeof *x, by_size);
+    return x[n / 2];
+}
+
+/* The faster of two compilers' versions, and a letter for the compiler. */
+static double faster(double clang, double gcc, char *which)
+{
+    *which = clang <= gcc ? 'c' : 'g';
+    return clang <= gcc ? clang : gcc;
+}
+
+static void print_row(const char *name, unsigned originators, double ns[VERSIONS])
+{
+    char cells_by, plain_by;
+    double cells = faster(ns[1], ns[2], &cells_by), plain = faster(ns[3], ns[4], &plain_by);
+    printf("%-28s %11u %9.1f %9.1f %c %6.2f %9.1f %c\n", name, originators, ns[0], cells, cells_by, ns[0] / cells, plain, plain_by);
+    fflush(stdout);
+}
+
+static void time_row(struct mesh *m, const struct row *r)
+{
+    static struct slice s;
+    static double took[VERSIONS][SLICES];
+    double ns[VERSIONS];
+    for (int i = 0; i < SLICES; i++) {
+        uint64_t sum[VERSIONS];
+        s.calls = m->calls;
+        r->prepare(m, &s);
+        for (int turn = 0; turn < VERSIONS; turn++) {
+            int v = (turn + i) % VERSIONS;
+            double start = nanoseconds();
+            sum[v] = r->play(versions[v], m, v, &s);
+            took[v][i] = (nanoseconds() - start) / s.calls;
+        }
+        for (int v = 1; v < VERSIONS; v++)
+            if (sum[v] != sum[0])
+                stop("the versions answered differently while they were timed");
+    }
+    for (int v = 0; v < VERSIONS; v++)
+        ns[v] = median(took[v], SLICES);
+    print_row(r->name, m->originators, ns);
+}
+
+/* Leaves one originator unheard for longer than the purge timeout, and all others heard just now. */
+static void age_one(struct mesh *m)
+{
+    m->time += (uint64_t)PURGE + 1;
+    for (int i = 0; i < FILLING; i++)
+        hear_round(m, m->originators / 2);
+}
+
+static void remove_one(struct mesh *m)
+{
+    for (int v = 0; v < VERSIONS; v++)
+        if (versions[v]->sweep(m->table[v], m->count, m->time).removed != 1)
+            stop("the sweep didn't remove the one that it should");
+}
+
+static void same_cells(const struct mesh *m)
+{
+    for (int v = 1; v < VERSIONS; v++)
+        if (versions[v]->has_cells && memcmp(m->table[v], m->table[0], m->count * sizeof(uint64_t)) != 0)
+            stop("the cells differ after the timed calls");
+}
+
+static void time_mesh(unsigned originators)
+{
+    static const struct row steady[] = {
+        {"receive, relayed", prepare_relayed, play_receive},
+        {"receive, direct", prepare_direct, play_receive},
+        {"own packet, 2 HNA entries", prepare_time, play_own},
+        {"sweep, none removed", prepare_time, play_sweep},
+        {"best question", prepare_time, play_best},
+        {"packet check, 62 octets", prepare_time, play_check},
+    };
+    static const struct row sweep_one = {"sweep, one removed", prepare_copies, play_sweep_one};
+    static const struct row first = {"receive, first of originator", prepare_copies, play_first};
+    static struct mesh m;
+    open_mesh(&m, originators);
+    for (size_t i = 0; i < sizeof steady / sizeof *steady; i++)
+        time_row(&m, &steady[i]);
+    age_one(&m);
+    time_row(&m, &sweep_one);
+    remove_one(&m);
+    time_row(&m, &first);
+    same_cells(&m);
+    close_mesh(&m);
+}
+
+int main(void)
+{
+    static const unsigned sizes[] = {1, 16, 64, 256};
+    if (!compare(versions, VERSIONS, COMPARED))
+        return EXIT_FAILURE;
+    printf("\n%-28s %11s %9s %11s %6s %11s\n", "call", "originators", "proved ns", "(a) ns", "ratio", "(b) ns");
+    for (size_t i = 0; i < sizeof sizes / sizeof *sizes; i++)
+        time_mesh(sizes[i]);
+    printf("\n(a) the same cells and the same check in C, (b) structs of its own and no check; c by clang, g by gcc, the faster of the two.\n");
+    printf("The median of %d slices, in which the versions take turns.\n", SLICES);
+    return EXIT_SUCCESS;
+}

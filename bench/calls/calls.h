@@ -1,0 +1,29 @@
+/* The library's calls as a row of functions, so that several versions of them can be played and timed by the same code. */
+#ifndef CALLS_H
+#define CALLS_H
+
+#include <stdbool.h>
+
+#include "batman.h"
+
+/* `table` is what `size` octets hold; `count` is the number of cells for a version that has cells, and ignored by another. */
+struct version {
+    const char *name;
+    bool has_cells;
+    size_t (*size)(uint64_t capacity);
+    uint64_t (*make)(void *table, size_t count, struct batman_settings settings, struct batman_interfaces interfaces);
+    struct batman_received (*receive)(void *table, size_t count, const uint8_t *packet, size_t length, uint32_t sender, uint64_t interface,
+                                      uint64_t time, uint8_t *output, size_t room);
+    struct batman_written (*own_packet)(void *table, size_t count, uint64_t interface, uint64_t time, uint8_t ttl, uint8_t gateway,
+                                        uint16_t port, const uint8_t *hna, size_t hna_length, uint8_t *output, size_t room);
+    struct batman_swept (*sweep)(void *table, size_t count, uint64_t time);
+    struct batman_asked (*best)(const void *table, size_t count, uint32_t originator);
+    uint64_t (*packet_check)(const uint8_t *packet, size_t length, uint64_t version);
+};
+
+extern const struct version proved, cells_gcc, cells_clang, plain_gcc, plain_clang;
+
+/* Plays random calls on every version and compares them; false, with a word on standard output, at the first difference. */
+bool compare(const struct version *const *versions, int n, unsigned long calls);
+
+#endif

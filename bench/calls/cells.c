@@ -1,0 +1,446 @@
+/* The calls on the same cells in ordinary C, written from docs/LAYOUT.md and the rules; the whole table is checked first here too.
+ * Compiled once by each compiler: VERSION is the name that the row of functions then has. */
+#include <string.h>
+
+#include "calls.h"
+#include "wire.h"
+
+enum {
+    VERSION_AT, WINDOW_AT, TIMEOUT_AT, PURGE_AT, CAPACITY_AT, USED_AT, TIME_AT, ROWS_AT, RECORDS_AT,
+    INTERFACES_AT = 9, INTERFACE = 5, NEIGHBOURS_AT = 29, NEIGHBOUR = 2, NEIGHBOUR_MOST = 32, ALL_RECORDS_AT = 93, RECORD = 22
+};
+enum { OWN, BROADCAST, FIRST, SENT, LAST };                               /* of an interface row */
+enum { ADDRESS, CURRENT, SEEN, LAST_TTL, LINKS, BEST, LINKS_FROM, LINK = 2, LINK_MOST = 8 }; /* of a record */
+
+static size_t cells_needed(uint64_t capacity) { return capacity >= 1 && capacity <= 256 ? ALL_RECORDS_AT + RECORD * (size_t)capacity : 0; }
+
+/* ---- the check */
+
+static bool zeros(const uint64_t *from, const uint64_t *to)
+{
+    uint64_t any = 0;
+    for (; from < to; from++)
+        any |= *from;
+    return any == 0;
+}
+
+static bool settings_ok(uint64_t version, uint64_t window, uint64_t timeout, uint64_t purge, uint64_t capacity)
+{
+    return version <= 255 && window - 1 < 64 && timeout - 1 < 1000 && purge - 1 < UINT32_MAX && capacity - 1 < 256;
+}
+
+static bool head_ok(const uint64_t *c, size_t count)
+{
+    return count >= ALL_RECORDS_AT && settings_ok(c[VERSION_AT], c[WINDOW_AT], c[TIMEOUT_AT], c[PURGE_AT], c[CAPACITY_AT]) &&
+           c[USED_AT] - 1 < 4 && c[ROWS_AT] <= NEIGHBOUR_MOST && c[RECORDS_AT] <= c[CAPACITY_AT] && count == cells_needed(c[CAPACITY_AT]);
+}
+
+static bool interfaces_ok(const uint64_t *c)
+{
+    const uint64_t *row = c + INTERFACES_AT, *end = row + INTERFACE * c[USED_AT];
+    for (; row < end; row += INTERFACE) {
+        if (row[OWN] >> 32 || row[BROADCAST] >> 32 || row[FIRST] >> 16 || row[SENT] > 1 || row[LAST] >> 16 || row[LAST] > row[SENT] * 65535)
+            return false;
+        for (const uint64_t *other = c + INTERFACES_AT; other < row; other += INTERFACE)
+            if (other[OWN] == row[OWN])
+                return false;
+    }
+    return zeros(row, c + NEIGHBOURS_AT);
+}
+
+static bool neighbours_ok(const uint64_t *c)
+{
+    const uint64_t *row = c + NEIGHBOURS_AT, *end = row + NEIGHBOUR * c[ROWS_AT];
+    uint64_t used = c[USED_AT], timeout = c[TIMEOUT_AT], low = 0;
+    for (; row < end; row += NEIGHBOUR) {
+        const uint64_t *sender = c + INTERFACES_AT + INTERFACE * (row[0] & 3);
+        if (row[0] < low || row[0] >> 34 || (row[0] & 3) >= used || row[1] >> 16 || !sender[SENT] || ((sender[LAST] - row[1]) & 0xffff) >= timeout)
+            return false;
+        low = row[0] + 1;
+    }
+    return zeros(row, c + ALL_RECORDS_AT);
+}
+
+/* What all records are held to: the own addresses, the first again for each that is not in use. */
+struct limits {
+    uint64_t most_marks, used, time, own[4];
+};
+
+/* Tests one after another: in a well-formed table no branch but the one for best ever goes the other way. */
+static inline bool links_ok(const uint64_t *r, const struct limits *l)
+{
+    const uint64_t *link = r + LINKS_FROM;
+    uint64_t best = r[BEST], low = 0, n = r[LINKS];
+    bool held = false;
+    for (uint64_t i = 0; i < n; i++) {
+        uint64_t key = link[LINK * i], marks = link[LINK * i + 1];
+        if (key < low || key >> 34 || (key & 3) >= l->used || marks > l->most_marks)
+            return false;
+        if (key == best)
+            held = true;
+        else if (marks == 0)
+            return false;
+        low = key + 1;
+    }
+    return held && zeros(link + LINK * n, r + RECORD);
+}
+
+static inline bool record_ok(const uint64_t *r, uint64_t low, const struct limits *l)
+{
+    uint64_t a = r[ADDRESS];
+    if (a < low || a >> 32 || a == l->own[0] || a == l->own[1] || a == l->own[2] || a == l->own[3])
+        return false;
+    if (r[CURRENT] >> 16 || r[SEEN] > l->time || r[LAST_TTL] >> 8 || r[LINKS] - 1 >= LINK_MOST)
+        return false;
+    return links_ok(r, l);
+}
+
+static bool well_formed(const uint64_t *c, size_t count)
+{
+    if (!head_ok(c, count) || !interfaces_ok(c) || !neighbours_ok(c))
+        return false;
+    struct limits l = {UINT64_MAX >> (64 - c[WINDOW_AT]), c[USED_AT], c[TIME_AT], {0}};
+    for (uint64_t i = 0; i < 4; i++)
+        l.own[i] = c[INTERFACES_AT + INTERFACE * (i < l.used ? i : 0) + OWN];
+    const uint64_t *r = c + ALL_RECORDS_AT, *end = r + RECORD * c[RECORDS_AT];
+    uint64_t low = 0;
+    for (; r < end; r += RECORD) {
+        if (!record_ok(r, low, &l))
+            return false;
+        low = r[ADDRESS] + 1;
+    }
+    return zeros(r, c + count);
+}
+
+/* ---- rows that rise by their key: the first of n that is not below it */
+
+static inline size_t lower(const uint64_t *rows, size_t width, size_t n, uint64_t key)
+{
+    size_t low = 0;
+    while (n > 0) {
+        size_t half = n / 2;
+        if (rows[(low + half) * width] < key) {
+            low += half + 1;
+            n -= half + 1;
+        } else {
+            n = half;
+        }
+    }
+    return low;
+}
+
+static inline bool stands(const uint64_t *rows, size_t width, size_t n, size_t at, uint64_t key) { return at < n && rows[at * width] == key; }
+
+static void put_in(uint64_t *rows, size_t width, size_t n, size_t at)
+{
+    memmove(rows + (at + 1) * width, rows + at * width, (n - at) * width * sizeof *rows);
+}
+
+/* A kept row goes behind those kept before it; one that is there already is not copied. */
+static inline void keep_row(uint64_t *rows, size_t width, uint64_t from, uint64_t to)
+{
+    if (to < from)
+        memcpy(rows + width * to, rows + width * from, width * sizeof *rows);
+}
+
+static inline uint64_t clear_rest(uint64_t *rows, size_t width, uint64_t kept, uint64_t n)
+{
+    if (kept < n)
+        memset(rows + width * kept, 0, (n - kept) * width * sizeof *rows);
+    return kept;
+}
+
+/* ---- records */
+
+static inline unsigned ones(uint64_t word) { return (unsigned)__builtin_popcountll(word); }
+
+static inline struct batman_route route_of(const uint64_t *c, const uint64_t *r)
+{
+    const uint64_t *link = r + LINKS_FROM;
+    while (link[0] != r[BEST])
+        link += LINK;
+    return (struct batman_route){(uint32_t)(r[BEST] >> 2), (uint32_t)(r[BEST] & 3), ones(link[1]), (uint32_t)c[WINDOW_AT]};
+}
+
+static struct batman_route route_to(const uint64_t *c, uint32_t originator)
+{
+    const uint64_t *records = c + ALL_RECORDS_AT;
+    size_t n = (size_t)c[RECORDS_AT], at = lower(records, RECORD, n, originator);
+    return stands(records, RECORD, n, at, originator) ? route_of(c, records + at * RECORD) : (struct batman_route){0, 0, 0, 0};
+}
+
+/* An arrived message. */
+struct arrival {
+    uint64_t key, time;
+    uint32_t originator;
+    uint16_t sequence;
+    uint8_t ttl;
+};
+
+static inline bool is_duplicate(const uint64_t *r, uint64_t window, uint64_t key, uint16_t number)
+{
+    uint64_t behind = (uint16_t)(r[CURRENT] - number), n = r[LINKS];
+    if (behind >= window)
+        return false;
+    for (const uint64_t *link = r + LINKS_FROM, *end = link + LINK * n; link < end; link += LINK)
+        if (link[0] == key)
+            return link[1] >> behind & 1;
+    return false;
+}
+
+/* The links as counting leaves them: at most nine, before it is known whether they fit. */
+struct links {
+    uint64_t cell[LINK * (LINK_MOST + 1)];
+    size_t n;
+};
+
+static inline void add(struct links *l, uint64_t key, uint64_t marks)
+{
+    l->cell[LINK * l->n] = key;
+    l->cell[LINK * l->n + 1] = marks;
+    l->n++;
+}
+
+/* Every link's marks after the window has moved up by d, and this link among them with the number k below current marked. */
+static inline struct links moved(const uint64_t *r, uint64_t window, uint64_t d, uint64_t k, uint64_t key)
+{
+    uint64_t most = UINT64_MAX >> (64 - window), mark = (uint64_t)1 << k;
+    struct links l = {.n = 0};
+    bool met = false;
+    for (const uint64_t *link = r + LINKS_FROM, *end = link + LINK * r[LINKS]; link < end; link += LINK) {
+        uint64_t marks = d < window ? link[1] << d & most : 0;
+        if (!met && link[0] >= key) {
+            met = true;
+            if (link[0] != key)
+                add(&l, key, mark);
+            else
+                marks |= mark;
+        }
+        add(&l, link[0], marks);
+    }
+    if (!met)
+        add(&l, key, mark);
+    return l;
+}
+
+static inline uint64_t chosen(const struct links *l, uint64_t key, uint64_t best)
+{
+    unsigned mine = 0, most = 0;
+    for (size_t i = 0; i < l->n; i++) {
+        unsigned count = ones(l->cell[LINK * i + 1]);
+        most = count > most ? count : most;
+        mine = l->cell[LINK * i] == key ? count : mine;
+    }
+    return mine == most ? key : best;
+}
+
+static bool count_message(uint64_t *r, uint64_t window, const struct arrival *m)
+{
+    uint64_t next = (uint16_t)(r[CURRENT] - m->sequence) < window ? r[CURRENT] : m->sequence;
+    struct links all = moved(r, window, (uint16_t)(next - r[CURRENT]), (uint16_t)(next - m->sequence), m->key), kept = {.n = 0};
+    uint64_t best = chosen(&all, m->key, r[BEST]);
+    for (size_t i = 0; i < all.n; i++)
+        if (all.cell[LINK * i + 1] != 0 || all.cell[LINK * i] == best)
+            add(&kept, all.cell[LINK * i], all.cell[LINK * i + 1]);
+    if (kept.n > LINK_MOST)
+        return false;
+    uint64_t was = r[LINKS];
+    r[CURRENT] = next;
+    r[SEEN] = m->time;
+    r[LAST_TTL] = m->ttl;
+    r[LINKS] = kept.n;
+    r[BEST] = best;
+    memcpy(r + LINKS_FROM, kept.cell, kept.n * LINK * sizeof *r);
+    if (kept.n < was)
+        memset(r + LINKS_FROM + kept.n * LINK, 0, (was - kept.n) * LINK * sizeof *r);
+    return true;
+}
+
+static void make_record(uint64_t *c, size_t at, const struct arrival *m)
+{
+    uint64_t *records = c + ALL_RECORDS_AT, *r = records + at * RECORD;
+    put_in(records, RECORD, (size_t)c[RECORDS_AT], at);
+    memset(r, 0, RECORD * sizeof *r);
+    r[ADDRESS] = m->originator;
+    r[CURRENT] = m->sequence;
+    r[SEEN] = m->time;
+    r[LAST_TTL] = m->ttl;
+    r[LINKS] = 1;
+    r[BEST] = r[LINKS_FROM] = m->key;
+    r[LINKS_FROM + 1] = 1;
+    c[RECORDS_AT]++;
+}
+
+/* The refusals that receive and own packet have in common. */
+static inline struct fault call_fault(const uint64_t *c, size_t count, uint64_t interface, uint64_t time, bool is_short)
+{
+    if (!well_formed(c, count))
+        return (struct fault){1, 0};
+    if (interface >= c[USED_AT])
+        return (struct fault){2, 0};
+    if (time < c[TIME_AT])
+        return (struct fault){3, 0};
+    return (struct fault){is_short ? 4 : 0, 0};
+}
+
+/* ---- receive */
+
+static inline struct batman_received answer(uint64_t number, struct batman_route route)
+{
+    return (struct batman_received){number, 0, 0, route};
+}
+
+static inline struct batman_received refusal(struct fault f) { return (struct batman_received){f.number, f.place, 0, {0, 0, 0, 0}}; }
+
+static inline bool listed(const uint64_t *c, size_t field, uint32_t address)
+{
+    for (uint64_t i = 0; i < c[USED_AT]; i++)
+        if (c[INTERFACES_AT + INTERFACE * i + field] == address)
+            return true;
+    return false;
+}
+
+static struct batman_received own_message(uint64_t *c, const uint8_t *packet, const struct arrival *m)
+{
+    const uint64_t *row = c + INTERFACES_AT + INTERFACE * (m->key & 3);
+    uint64_t *rows = c + NEIGHBOURS_AT;
+    bool echo = (packet[1] & D) && row[OWN] == m->originator && row[SENT] && row[LAST] == m->sequence;
+    if (echo) {
+        size_t n = (size_t)c[ROWS_AT], at = lower(rows, NEIGHBOUR, n, m->key);
+        if (!stands(rows, NEIGHBOUR, n, at, m->key)) {
+            if (n == NEIGHBOUR_MOST)
+                return refusal((struct fault){9, 0});
+            put_in(rows, NEIGHBOUR, n, at);
+            rows[at * NEIGHBOUR] = m->key;
+            c[ROWS_AT]++;
+        }
+        rows[at * NEIGHBOUR + 1] = m->sequence;
+    }
+    c[TIME_AT] = m->time;
+    return answer(echo ? 22 : 23, (struct batman_route){0, 0, 0, 0});
+}
+
+static struct batman_received others_message(uint64_t *c, const uint8_t *packet, size_t length, const struct arrival *m, uint8_t *output)
+{
+    uint64_t *rows = c + NEIGHBOURS_AT, *records = c + ALL_RECORDS_AT, window = c[WINDOW_AT];
+    size_t n = (size_t)c[RECORDS_AT], at = lower(records, RECORD, n, m->originator), row = lower(rows, NEIGHBOUR, (size_t)c[ROWS_AT], m->key);
+    bool bidirectional = stands(rows, NEIGHBOUR, (size_t)c[ROWS_AT], row, m->key), held = stands(records, RECORD, n, at, m->originator);
+    bool direct = m->key >> 2 == m->originator, duplicate = held && is_duplicate(records + at * RECORD, window, m->key, m->sequence);
+    uint64_t *r = records + at * RECORD, last_ttl = held ? r[LAST_TTL] : 0;
+    if (bidirectional && !duplicate) {
+        if (!held && n == c[CAPACITY_AT])
+            return refusal((struct fault){10, 0});
+        if (!held)
+            make_record(c, at, m);
+        else if (!count_message(r, window, m))
+            return refusal((struct fault){11, 0});
+        held = true;
+    }
+    c[TIME_AT] = m->time;
+    struct batman_route route = held ? route_of(c, r) : (struct batman_route){0, 0, 0, 0};
+    bool by_best = bidirectional && r[BEST] == m->key && (!duplicate || m->ttl == last_ttl);
+    if (m->ttl < TTL_LEAST || !(direct || by_best))
+        return answer(25, route);
+    pass_on(output, packet, length, direct, bidirectional);
+    return (struct batman_received){26, 0, packet[1] & UNNAMED, route};
+}
+
+static struct batman_received receive(void *table, size_t count, const uint8_t *packet, size_t length, uint32_t sender, uint64_t interface,
+                                      uint64_t time, uint8_t *output, size_t room)
+{
+    uint64_t *c = table;
+    struct fault f = call_fault(c, count, interface, time, room < length);
+    if (f.number == 0)
+        f = packet_fault(packet, length, c[VERSION_AT]);
+    if (f.number != 0)
+        return refusal(f);
+    struct arrival m = {(uint64_t)sender << 2 | interface, time, read4(packet + 8), read2(packet + 4), packet[2]};
+    uint64_t verdict = listed(c, OWN, sender) ? 20 : listed(c, BROADCAST, sender) ? 21 : 0;
+    if (verdict == 0 && listed(c, OWN, m.originator))
+        return own_message(c, packet, &m);
+    if (verdict == 0 && packet[1] & U)
+        verdict = 24;
+    if (verdict == 0)
+        return others_message(c, packet, length, &m, output);
+    c[TIME_AT] = time;
+    return answer(verdict, route_to(c, m.originator));
+}
+
+/* ---- the other calls */
+
+static size_t size(uint64_t capacity) { return cells_needed(capacity) * sizeof(uint64_t); }
+
+static uint64_t make(void *table, size_t count, struct batman_settings s, struct batman_interfaces f)
+{
+    uint64_t *c = table;
+    if (!settings_ok(s.version, s.window, s.timeout, s.purge, s.capacity) || f.used - 1 >= 4 || count != cells_needed(s.capacity))
+        return 12;
+    for (uint64_t i = 0; i < f.used; i++)
+        for (uint64_t j = 0; j < i; j++)
+            if (f.row[i].own == f.row[j].own)
+                return 12;
+    uint64_t head[] = {s.version, s.window, s.timeout, s.purge, s.capacity, f.used};
+    memset(c, 0, count * sizeof *c);
+    memcpy(c, head, sizeof head);
+    for (uint64_t i = 0; i < f.used; i++) {
+        uint64_t *row = c + INTERFACES_AT + INTERFACE * i;
+        row[OWN] = f.row[i].own;
+        row[BROADCAST] = f.row[i].broadcast;
+        row[FIRST] = f.row[i].first;
+    }
+    return 0;
+}
+
+static inline bool recent_row(const uint64_t *c, const uint64_t *row, uint64_t interface, uint64_t last)
+{
+    return (row[0] & 3) != interface || (uint16_t)(last - row[1]) < c[TIMEOUT_AT];
+}
+
+static struct batman_written own_packet(void *table, size_t count, uint64_t interface, uint64_t time, uint8_t ttl, uint8_t gateway,
+                                        uint16_t port, const uint8_t *hna, size_t hna_length, uint8_t *output, size_t room)
+{
+    uint64_t *c = table;
+    struct fault f = call_fault(c, count, interface, time, room < HEADER || room - HEADER < hna_length);
+    if (f.number == 0)
+        f = written_fault(hna, hna_length, ttl);
+    if (f.number != 0)
+        return (struct batman_written){f.number, f.place, 0, 0};
+    uint64_t *row = c + INTERFACES_AT + INTERFACE * interface;
+    uint16_t sequence = (uint16_t)(row[SENT] ? row[LAST] + 1 : row[FIRST]);
+    write_packet(output, (uint8_t)c[VERSION_AT], ttl, gateway, sequence, port, (uint32_t)row[OWN], hna, hna_length);
+    row[SENT] = 1;
+    row[LAST] = sequence;
+    uint64_t *rows = c + NEIGHBOURS_AT, n = c[ROWS_AT], kept = 0;
+    for (uint64_t i = 0; i < n; i++)
+        if (recent_row(c, rows + NEIGHBOUR * i, interface, sequence))
+            keep_row(rows, NEIGHBOUR, i, kept++);
+    c[ROWS_AT] = clear_rest(rows, NEIGHBOUR, kept, n);
+    c[TIME_AT] = time;
+    return (struct batman_written){0, 0, HEADER + hna_length, sequence};
+}
+
+static struct batman_swept sweep(void *table, size_t count, uint64_t time)
+{
+    uint64_t *c = table;
+    if (!well_formed(c, count))
+        return (struct batman_swept){1, 0};
+    if (time < c[TIME_AT])
+        return (struct batman_swept){3, 0};
+    uint64_t *records = c + ALL_RECORDS_AT, n = c[RECORDS_AT], kept = 0;
+    for (uint64_t i = 0; i < n; i++)
+        if (time - records[RECORD * i + SEEN] <= c[PURGE_AT])
+            keep_row(records, RECORD, i, kept++);
+    c[RECORDS_AT] = clear_rest(records, RECORD, kept, n);
+    c[TIME_AT] = time;
+    return (struct batman_swept){0, n - kept};
+}
+
+static struct batman_asked best(const void *table, size_t count, uint32_t originator)
+{
+    const uint64_t *c = table;
+    if (!well_formed(c, count))
+        return (struct batman_asked){1, {0, 0, 0, 0}};
+    return (struct batman_asked){0, route_to(c, originator)};
+}
+
+const struct version VERSION = {"cells", true, size, make, receive, own_packet, sweep, best, packet_check};

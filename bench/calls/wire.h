@@ -1,0 +1,86 @@
+/* The octets of a packet, for both versions in C. */
+#ifndef WIRE_H
+#define WIRE_H
+
+#include <stdbool.h>
+#include <stddef.h>
+#include <stdint.h>
+#include <string.h>
+
+enum { HEADER = 12, ENTRY = 5, PACKET_MOST = 1472, MASK_AT = 4, MASK_MOST = 32, TTL_LEAST = 2, U = 128, D = 64, UNNAMED = 63 };
+
+struct fault {
+    uint64_t number, place;
+};
+
+static inline struct fault hna_fault(const uint8_t *hna, size_t length)
+{
+    if (length % ENTRY != 0)
+        return (struct fault){7, 0};
+    for (size_t at = MASK_AT; at < length; at += ENTRY)
+        if (hna[at] > MASK_MOST)
+            return (struct fault){8, at / ENTRY};
+    return (struct fault){0, 0};
+}
+
+static inline struct fault packet_fault(const uint8_t *packet, size_t length, uint64_t version)
+{
+    if (length < HEADER || length > PACKET_MOST)
+        return (struct fault){5, 0};
+    if (packet[0] != version)
+        return (struct fault){6, 0};
+    return hna_fault(packet + HEADER, length - HEADER);
+}
+
+/* The packet check as one number. */
+static inline uint64_t packet_check(const uint8_t *packet, size_t length, uint64_t version)
+{
+    struct fault f = packet_fault(packet, length, version);
+    return f.number + 256 * f.place;
+}
+
+/* Of an own packet with these HNA octets. */
+static inline struct fault written_fault(const uint8_t *hna, size_t length, uint8_t ttl)
+{
+    if (length > PACKET_MOST - HEADER)
+        return (struct fault){5, 0};
+    struct fault f = hna_fault(hna, length);
+    if (f.number == 0 && ttl < TTL_LEAST)
+        f.number = 13;
+    return f;
+}
+
+static inline uint16_t read2(const uint8_t *p) { return (uint16_t)(p[0] << 8 | p[1]); }
+static inline uint32_t read4(const uint8_t *p) { return (uint32_t)p[0] << 24 | (uint32_t)p[1] << 16 | (uint32_t)p[2] << 8 | p[3]; }
+
+static inline void write2(uint8_t *p, uint16_t n)
+{
+    p[0] = (uint8_t)(n >> 8);
+    p[1] = (uint8_t)n;
+}
+
+/* Writes an own packet, flags 0. */
+static inline void write_packet(uint8_t *out, uint8_t version, uint8_t ttl, uint8_t gateway, uint16_t sequence, uint16_t port, uint32_t originator,
+                                const uint8_t *hna, size_t hna_length)
+{
+    out[0] = version;
+    out[1] = 0;
+    out[2] = ttl;
+    out[3] = gateway;
+    write2(out + 4, sequence);
+    write2(out + 6, port);
+    write2(out + 8, (uint16_t)(originator >> 16));
+    write2(out + 10, (uint16_t)originator);
+    if (hna_length > 0)
+        memcpy(out + HEADER, hna, hna_length);
+}
+
+/* Writes the passed-on copy for the receiving interface. */
+static inline void pass_on(uint8_t *out, const uint8_t *packet, size_t length, bool direct, bool bidirectional)
+{
+    memcpy(out, packet, length);
+    out[1] = (uint8_t)((packet[1] & UNNAMED) | (direct ? D : 0) | (bidirectional ? 0 : U));
+    out[2] = (uint8_t)(packet[2] - 1);
+}
+
+#endif
