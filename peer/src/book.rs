@@ -1,0 +1,427 @@
+//! The plain book: what document 01, section "The book", keeps and how it answers.
+//! No marks are kept anywhere: every word (current, duplicate, count, best, held links) is
+//! computed from the lists of counted originator messages by `words.rs`.
+
+use crate::packet::{self, Header, DIRECT, HEADER_OCTETS, UNIDIRECTIONAL};
+use crate::words::{self, Counted, Link, Words};
+use std::collections::BTreeMap;
+
+pub const INTERFACES_MOST: usize = 4;
+pub const NEIGHBOURS_MOST: usize = 32;
+pub const LINKS_MOST: usize = 8;
+pub const CAPACITY_MOST: u64 = 256;
+
+/// One of the four interface rows given to make.
+#[derive(Clone, Copy, Debug, Default, PartialEq)]
+pub struct InterfaceRow {
+    pub own: u32,
+    pub broadcast: u32,
+    pub first: u16,
+}
+
+/// What make is given.
+#[derive(Clone, Copy, Debug, Default, PartialEq)]
+pub struct Settings {
+    pub version: u64,
+    pub window: u64,
+    pub timeout: u64,
+    pub purge: u64,
+    pub capacity: u64,
+    pub used: u64,
+    pub rows: [InterfaceRow; INTERFACES_MOST],
+}
+
+impl Settings {
+    /// Whether every setting and interface row is allowed.
+    pub fn allowed(&self) -> bool {
+        self.version <= 255
+            && (1..=64).contains(&self.window)
+            && (1..=1000).contains(&self.timeout)
+            && (1..=u64::from(u32::MAX)).contains(&self.purge)
+            && (1..=CAPACITY_MOST).contains(&self.capacity)
+            && (1..=INTERFACES_MOST as u64).contains(&self.used)
+            && own_addresses_differ(self.rows_in_use())
+    }
+
+    /// The interface rows in use; those beyond are ignored.
+    pub fn rows_in_use(&self) -> &[InterfaceRow] {
+        &self.rows[..self.used as usize]
+    }
+
+    fn is_own(&self, address: u32) -> bool {
+        self.rows_in_use().iter().any(|row| row.own == address)
+    }
+
+    fn is_broadcast(&self, address: u32) -> bool {
+        self.rows_in_use()
+            .iter()
+            .any(|row| row.broadcast == address)
+    }
+}
+
+fn own_addresses_differ(rows: &[InterfaceRow]) -> bool {
+    (0..rows.len()).all(|i| (0..i).all(|j| rows[i].own != rows[j].own))
+}
+
+/// A call turned away: its number, and the place where the number is 8.
+#[derive(Clone, Copy, Debug, PartialEq)]
+pub struct Refusal {
+    pub number: u64,
+    pub place: u64,
+}
+
+/// A refusal without a place.
+pub fn refusal(number: u64) -> Refusal {
+    Refusal { number, place: 0 }
+}
+
+/// What the best question answers; all 0 where no record is held.
+#[derive(Clone, Copy, Debug, Default, PartialEq)]
+pub struct BestAnswer {
+    pub neighbour: u32,
+    pub interface: u64,
+    pub count: u64,
+    pub window: u64,
+}
+
+/// What receive answers where it is not refused.
+#[derive(Clone, Debug, PartialEq)]
+pub struct ReceiveAnswer {
+    pub verdict: u64,
+    pub other_flags: u8,
+    pub best: BestAnswer,
+    pub octets: Vec<u8>,
+}
+
+/// What an own packet answers where it is not refused.
+#[derive(Clone, Debug, PartialEq)]
+pub struct OwnAnswer {
+    pub sequence: u16,
+    pub octets: Vec<u8>,
+}
+
+/// One row of the list call.
+#[derive(Clone, Copy, Debug, PartialEq)]
+pub struct ListRow {
+    pub neighbour: u32,
+    pub interface: u64,
+    pub count: u64,
+    pub window: u64,
+    pub best: bool,
+}
+
+/// The arguments of receive, the table aside.
+pub struct Receive<'a> {
+    pub interface: u64,
+    pub sender: u32,
+    pub time: u64,
+    pub output: u64,
+    pub packet: &'a [u8],
+}
+
+/// The arguments of an own packet, the table aside.
+pub struct Own<'a> {
+    pub interface: u64,
+    pub time: u64,
+    pub ttl: u8,
+    pub gateway_flags: u8,
+    pub gateway_port: u16,
+    pub output: u64,
+    pub hna: &'a [u8],
+}
+
+pub struct Book {
+    pub settings: Settings,
+    pub time: u64,
+    /// The last sent number of each interface, none before the first.
+    pub last: [Option<u16>; INTERFACES_MOST],
+    /// For each link with an echo, the own packets on its interface since the latest one.
+    pub echoes: BTreeMap<Link, u64>,
+    /// For each originator, the counted messages; a list is never left empty here.
+    pub lists: BTreeMap<u32, Vec<Counted>>,
+}
+
+/// How many cells a capacity needs, 0 where it is not allowed.
+pub fn cells_needed(capacity: u64) -> u64 {
+    if (1..=CAPACITY_MOST).contains(&capacity) {
+        93 + 22 * capacity
+    } else {
+        0
+    }
+}
+
+impl Book {
+    /// Make: a book anew, or refusal 12.
+    pub fn make(settings: Settings, lent: u64) -> Result<Book, Refusal> {
+        if !settings.allowed() || lent != cells_needed(settings.capacity) {
+            return Err(refusal(12));
+        }
+        Ok(Book {
+            settings,
+            time: 0,
+            last: [None; INTERFACES_MOST],
+            echoes: BTreeMap::new(),
+            lists: BTreeMap::new(),
+        })
+    }
+
+    /// A link with an echo has a neighbour row while fewer than B own packets followed it.
+    pub fn has_row(&self, link: Link) -> bool {
+        self.echoes
+            .get(&link)
+            .is_some_and(|since| *since < self.settings.timeout)
+    }
+
+    /// The links with a neighbour row, rising by pair, each with the own packets since.
+    pub fn rows(&self) -> impl Iterator<Item = (Link, u64)> + '_ {
+        let timeout = self.settings.timeout;
+        self.echoes
+            .iter()
+            .filter(move |(_, since)| **since < timeout)
+            .map(|(link, since)| (*link, *since))
+    }
+
+    /// The counted messages of an originator; none where no record is held.
+    pub fn list_of(&self, originator: u32) -> &[Counted] {
+        self.lists.get(&originator).map_or(&[], |list| list)
+    }
+
+    /// The words of a held record.
+    pub fn words_of(&self, originator: u32) -> Option<Words> {
+        words::words(self.list_of(originator), self.settings.window)
+    }
+
+    /// The best question, refusal 1 aside.
+    pub fn best(&self, originator: u32) -> BestAnswer {
+        self.words_of(originator)
+            .map_or_else(BestAnswer::default, |words| BestAnswer {
+                neighbour: words.best.neighbour,
+                interface: u64::from(words.best.interface),
+                count: words.count(words.best),
+                window: self.settings.window,
+            })
+    }
+
+    /// The list call with this many rows lent, refusal 1 aside.
+    pub fn list(&self, originator: u32, rows: u64) -> Result<Vec<ListRow>, Refusal> {
+        let filled = self
+            .words_of(originator)
+            .map_or_else(Vec::new, |words| self.list_rows(&words));
+        if rows < filled.len() as u64 {
+            return Err(refusal(4));
+        }
+        Ok(filled)
+    }
+
+    fn list_rows(&self, words: &Words) -> Vec<ListRow> {
+        let row = |(link, count): &(Link, u64)| ListRow {
+            neighbour: link.neighbour,
+            interface: u64::from(link.interface),
+            count: *count,
+            window: self.settings.window,
+            best: *link == words.best,
+        };
+        words.held.iter().map(row).collect()
+    }
+
+    /// Refusals 2 and 3, which receive and own packet share.
+    fn refuse_interface_or_time(&self, interface: u64, time: u64) -> Result<(), Refusal> {
+        if interface >= self.settings.used {
+            return Err(refusal(2));
+        }
+        self.refuse_time(time)
+    }
+
+    fn refuse_time(&self, time: u64) -> Result<(), Refusal> {
+        if time < self.time {
+            return Err(refusal(3));
+        }
+        Ok(())
+    }
+
+    /// An own packet, refusal 1 aside.
+    pub fn own(&mut self, call: &Own) -> Result<OwnAnswer, Refusal> {
+        self.refuse_own(call)?;
+        self.time = call.time;
+        let sequence = self.next_number(call.interface as usize);
+        self.last[call.interface as usize] = Some(sequence);
+        for (link, since) in self.echoes.iter_mut() {
+            if u64::from(link.interface) == call.interface {
+                *since += 1;
+            }
+        }
+        let header = Header {
+            version: self.settings.version as u8,
+            flags: 0,
+            ttl: call.ttl,
+            gateway_flags: call.gateway_flags,
+            number: sequence,
+            gateway_port: call.gateway_port,
+            originator: self.settings.rows[call.interface as usize].own,
+        };
+        let octets = packet::write(&header, call.hna);
+        Ok(OwnAnswer { sequence, octets })
+    }
+
+    /// The number the next own packet of an interface takes.
+    pub fn next_number(&self, interface: usize) -> u16 {
+        match self.last[interface] {
+            None => self.settings.rows[interface].first,
+            Some(last) => last.wrapping_add(1),
+        }
+    }
+
+    fn refuse_own(&self, call: &Own) -> Result<(), Refusal> {
+        self.refuse_interface_or_time(call.interface, call.time)?;
+        let length = HEADER_OCTETS + call.hna.len();
+        if call.output < length as u64 {
+            return Err(refusal(4));
+        }
+        packet::length_fault(length)?;
+        packet::hna_fault(call.hna)?;
+        if call.ttl < 2 {
+            return Err(refusal(13));
+        }
+        Ok(())
+    }
+
+    /// A sweep, refusal 1 aside: how many records it removed.
+    pub fn sweep(&mut self, time: u64) -> Result<u64, Refusal> {
+        self.refuse_time(time)?;
+        self.time = time;
+        let before = self.lists.len();
+        let purge = self.settings.purge;
+        self.lists
+            .retain(|_, list| time - list[list.len() - 1].time <= purge);
+        Ok((before - self.lists.len()) as u64)
+    }
+
+    /// Receive, refusal 1 aside.
+    pub fn receive(&mut self, call: &Receive) -> Result<ReceiveAnswer, Refusal> {
+        self.refuse_interface_or_time(call.interface, call.time)?;
+        if call.output < call.packet.len() as u64 {
+            return Err(refusal(4));
+        }
+        packet::fault(self.settings.version, call.packet)?;
+        let header = packet::read(call.packet);
+        let link = Link {
+            neighbour: call.sender,
+            interface: call.interface as u8,
+        };
+        let mut answer = ReceiveAnswer {
+            verdict: 0,
+            other_flags: 0,
+            best: BestAnswer::default(),
+            octets: Vec::new(),
+        };
+        answer.verdict = self.judge(call, &header, link, &mut answer)?;
+        self.time = call.time;
+        answer.best = self.best(header.originator);
+        Ok(answer)
+    }
+
+    /// The five steps of receiving: the verdict, or refusal 9, 10 or 11.
+    fn judge(
+        &mut self,
+        call: &Receive,
+        header: &Header,
+        link: Link,
+        answer: &mut ReceiveAnswer,
+    ) -> Result<u64, Refusal> {
+        if self.settings.is_own(call.sender) {
+            return Ok(20);
+        }
+        if self.settings.is_broadcast(call.sender) {
+            return Ok(21);
+        }
+        if self.settings.is_own(header.originator) {
+            return self.echo(header, link);
+        }
+        if header.flags & UNIDIRECTIONAL != 0 {
+            return Ok(24);
+        }
+        self.count_and_pass_on(call, header, link, answer)
+    }
+
+    /// Step 3: an own message comes back.
+    fn echo(&mut self, header: &Header, link: Link) -> Result<u64, Refusal> {
+        let interface = usize::from(link.interface);
+        let accepted = header.flags & DIRECT != 0
+            && header.originator == self.settings.rows[interface].own
+            && self.last[interface] == Some(header.number);
+        if !accepted {
+            return Ok(23);
+        }
+        if !self.has_row(link) && self.rows().count() >= NEIGHBOURS_MOST {
+            return Err(refusal(9));
+        }
+        self.echoes.insert(link, 0);
+        Ok(22)
+    }
+
+    /// Step 5: the two questions, counted and passed on.
+    fn count_and_pass_on(
+        &mut self,
+        call: &Receive,
+        header: &Header,
+        link: Link,
+        answer: &mut ReceiveAnswer,
+    ) -> Result<u64, Refusal> {
+        let window = self.settings.window;
+        let list = self.list_of(header.originator);
+        let bidirectional = self.has_row(link);
+        let duplicate = words::duplicate(list, window, link, header.number);
+        let repeats_ttl = list.last().is_some_and(|last| last.ttl == header.ttl);
+        if bidirectional && !duplicate {
+            self.count(call.time, header, link)?;
+        }
+        let best = words::best(self.list_of(header.originator), window) == Some(link);
+        let relay = bidirectional && best && (!duplicate || repeats_ttl);
+        let direct = call.sender == header.originator;
+        let lowest = if cfg!(wrong = "ttl") { 1 } else { 2 };
+        if header.ttl < lowest || !(direct || relay) {
+            return Ok(25);
+        }
+        answer.other_flags = header.flags & !(UNIDIRECTIONAL | DIRECT);
+        answer.octets = pass_on(call.packet, header, direct, bidirectional);
+        Ok(26)
+    }
+
+    /// Adds one message to its originator's list, or refuses by 10 or 11.
+    fn count(&mut self, time: u64, header: &Header, link: Link) -> Result<(), Refusal> {
+        let full = self.lists.len() as u64 >= self.settings.capacity;
+        if full && !self.lists.contains_key(&header.originator) {
+            return Err(refusal(10));
+        }
+        let message = Counted {
+            number: header.number,
+            link,
+            time,
+            ttl: header.ttl,
+        };
+        let window = self.settings.window;
+        let list = self.lists.entry(header.originator).or_default();
+        list.push(message);
+        // A ninth link can only come where more than 8 messages are in the list.
+        if list.len() > LINKS_MOST && words::held(list, window).len() > LINKS_MOST {
+            list.pop();
+            return Err(refusal(11));
+        }
+        Ok(())
+    }
+}
+
+/// The copy for the receiving interface: TTL one less, U and D set anew, all else kept.
+fn pass_on(octets: &[u8], header: &Header, direct: bool, bidirectional: bool) -> Vec<u8> {
+    let mut copy = octets.to_vec();
+    let mut flags = header.flags & !(UNIDIRECTIONAL | DIRECT);
+    if direct {
+        flags |= DIRECT;
+    }
+    if !bidirectional {
+        flags |= UNIDIRECTIONAL;
+    }
+    copy[1] = flags;
+    copy[2] = header.ttl - 1;
+    copy
+}

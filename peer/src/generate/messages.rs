@@ -1,0 +1,459 @@
+//! Own packets, echoes of them and messages of other nodes, at the edges of the rules.
+
+use super::stage::Kind;
+use super::Generator;
+use crate::book::INTERFACES_MOST;
+use crate::packet::{self, Header, DIRECT, HEADER_OCTETS, PACKET_MOST, UNIDIRECTIONAL};
+use crate::play;
+use crate::words::{self, Link};
+
+/// The arguments of one receive line.
+struct Arrival {
+    interface: u64,
+    sender: u32,
+    time: u64,
+    output: u64,
+    packet: Vec<u8>,
+}
+
+impl Generator<'_> {
+    /// A time that is not before the table's, mostly close.
+    pub(super) fn now(&mut self) -> u64 {
+        let time = match &self.player.book {
+            Some(book) if book.time != 0 => book.time,
+            _ => self.stage.start,
+        };
+        let step = match self.random.below(20) {
+            0..12 => 0,
+            12..18 => self.random.below(4),
+            18 => self.random.below(60),
+            _ => self.random.below(self.settings().purge / 8 + 2),
+        };
+        time.saturating_add(step)
+    }
+
+    pub(super) fn row(&mut self) -> Option<Link> {
+        let rows: Vec<Link> = self.book().rows().map(|(link, _)| link).collect();
+        (!rows.is_empty()).then(|| self.random.pick(&rows))
+    }
+
+    /// A link with a row; in a stretch of runs mostly the one before.
+    fn row_of_run(&mut self) -> Option<Link> {
+        if self.stage.kind == Kind::Runs && self.random.chance(self.stage.stay) {
+            if let Some(link) = self.stage.run.filter(|link| self.book().has_row(*link)) {
+                return Some(link);
+            }
+        }
+        self.stage.run = self.row();
+        self.stage.run
+    }
+
+    fn neighbour(&mut self) -> u32 {
+        self.random.pick(&self.stage.neighbours)
+    }
+
+    pub(super) fn originator(&mut self) -> u32 {
+        let held: Vec<u32> = self.book().lists.keys().copied().collect();
+        let known = match self.stage.kind {
+            Kind::Full => 200,
+            Kind::Links => 850,
+            Kind::Runs => 970,
+            _ => 600,
+        };
+        if !held.is_empty() && self.random.chance(known) {
+            return self.random.pick(&held);
+        }
+        self.random.pick(&self.stage.originators)
+    }
+
+    /// A sequence number at an edge of the originator's window.
+    fn number(&mut self, originator: u32) -> u16 {
+        let window = self.settings().window;
+        let list = self.book().list_of(originator);
+        let Some(current) = words::current(list, window) else {
+            let any = self.random.next() as u16;
+            return self.random.pick(&[0, 1, 65_535, 65_534, any]);
+        };
+        let width = window as u16;
+        let within = self.random.below(window) as u16;
+        if self.stage.kind == Kind::Links && self.random.chance(400) {
+            // Many links are marked only where the window stays.
+            return current.wrapping_sub(self.random.pick(&[0, 0, within]));
+        }
+        if self.stage.kind == Kind::Runs && self.random.chance(950) {
+            return match self.random.below(200) {
+                0..130 => current.wrapping_add(1),
+                130..185 => current.wrapping_sub(within),
+                _ if width > 8 && self.random.chance(900) => current,
+                _ => current.wrapping_add(width - width / 4),
+            };
+        }
+        match self.random.below(100) {
+            0..30 => current.wrapping_add(1),
+            30..45 => current,
+            45..68 => current.wrapping_sub(within),
+            68..73 => current.wrapping_add(2),
+            73..79 => current.wrapping_sub(width - 1),
+            79..83 => current.wrapping_sub(width),
+            83..84 => current.wrapping_sub(width + 1),
+            84..88 => current.wrapping_add(width - 1),
+            88..91 => current.wrapping_add(width),
+            91..93 => current.wrapping_add(width + 1),
+            93..94 => current.wrapping_add(32_768),
+            94..95 => self.random.next() as u16,
+            95..96 => 0,
+            96..97 => 65_535,
+            _ => current.wrapping_sub(1),
+        }
+    }
+
+    fn ttl(&mut self, originator: u32) -> u8 {
+        let last = self
+            .book()
+            .list_of(originator)
+            .last()
+            .map_or(50, |message| message.ttl);
+        let near = last.wrapping_add(1);
+        self.random
+            .pick(&[0, 1, 2, 3, 50, 50, 255, last, last, last, near])
+    }
+
+    fn flags(&mut self) -> u8 {
+        let unnamed = self.random.next() as u8 & !(UNIDIRECTIONAL | DIRECT);
+        match self.random.below(20) {
+            0..9 => 0,
+            9..12 => unnamed,
+            12..15 => DIRECT,
+            15..18 => DIRECT | unnamed,
+            18 => UNIDIRECTIONAL | self.random.pick(&[0, DIRECT, unnamed]),
+            _ => self.random.next() as u8 & !UNIDIRECTIONAL,
+        }
+    }
+
+    /// HNA octets without a fault in them.
+    fn hna(&mut self) -> Vec<u8> {
+        let entries = match self.random.below(1000) {
+            0..820 => 0,
+            820..960 => 1 + self.random.below(3),
+            960..994 => 4 + self.random.below(16),
+            994..997 => 292,
+            _ => 286 + self.random.below(7),
+        };
+        let mut hna = Vec::new();
+        for _ in 0..entries {
+            let network = self.random.next() as u32;
+            let any = self.random.below(33) as u8;
+            hna.extend_from_slice(&network.to_be_bytes());
+            hna.push(self.random.pick(&[0, 24, 31, 32, 32, any]));
+        }
+        hna
+    }
+
+    /// At times breaks HNA octets: ragged, or one or two masks above 32.
+    fn spoil_hna(&mut self, hna: &mut Vec<u8>) {
+        if self.random.chance(14) {
+            let more = 1 + self.random.below(4);
+            hna.extend((0..more).map(|_| 255));
+        }
+        if self.random.chance(14) {
+            if hna.len() < 5 {
+                hna.extend_from_slice(&[10, 0, 0, 0, 8]);
+            }
+            for _ in 0..1 + self.random.below(2) {
+                let entry = self.random.below(hna.len() as u64 / 5) as usize;
+                hna[5 * entry + 4] = self.random.pick(&[33, 33, 64, 128, 255]);
+            }
+        }
+    }
+
+    pub(super) fn packet(&mut self, flags: u8, ttl: u8, number: u16, originator: u32) -> Vec<u8> {
+        let mut hna = self.hna();
+        self.spoil_hna(&mut hna);
+        let header = Header {
+            version: self.settings().version as u8,
+            flags,
+            ttl,
+            gateway_flags: self.random.next() as u8,
+            number,
+            gateway_port: self.random.next() as u16,
+            originator,
+        };
+        packet::write(&header, &hna)
+    }
+
+    fn output(&mut self, length: usize) -> u64 {
+        let length = length as u64;
+        match self.random.below(200) {
+            0..120 => length,
+            120..197 => {
+                let more = length + self.random.below(4);
+                self.random
+                    .pick(&[length + 1, 1472.max(length), 4096, more])
+            }
+            197 => 0,
+            _ => length.saturating_sub(1),
+        }
+    }
+
+    /// An interface number that is mostly left as it is.
+    fn spoil_interface(&mut self, interface: u64) -> u64 {
+        if !self.random.chance(14) {
+            return interface;
+        }
+        let used = self.settings().used;
+        self.random.pick(&[
+            used,
+            used,
+            used + 1,
+            4,
+            5,
+            256 + interface,
+            (1 << 32) + interface,
+            u64::MAX,
+        ])
+    }
+
+    pub(super) fn spoil_time(&mut self, time: u64) -> u64 {
+        let table = self.player.book.as_ref().map_or(0, |book| book.time);
+        if table == 0 || !self.random.chance(14) {
+            return time;
+        }
+        self.random.pick(&[table - 1, table - 1, table / 2, 0])
+    }
+
+    pub(super) fn spoil_packet(&mut self, packet: &mut Vec<u8>) {
+        if self.random.chance(14) {
+            packet[0] = packet[0].wrapping_add(self.random.pick(&[1, 255, 128]));
+        }
+        if self.random.chance(12) {
+            let short = self.random.below(HEADER_OCTETS as u64) as usize;
+            let any = self.random.below(2001) as usize;
+            let length = match self.random.below(100) {
+                0..80 => self.random.pick(&[0, 1, 11, short]),
+                _ => self
+                    .random
+                    .pick(&[PACKET_MOST + 1, PACKET_MOST + 5, 2000, any]),
+            };
+            let filler = self.random.next() as u8;
+            packet.resize(length, filler);
+        }
+    }
+
+    /// Writes a receive line; each fault comes in at times, so that two meet now and then.
+    fn receive(&mut self, mut arrival: Arrival) {
+        self.spoil_packet(&mut arrival.packet);
+        arrival.interface = self.spoil_interface(arrival.interface);
+        arrival.time = self.spoil_time(arrival.time);
+        let mut line = format!(
+            "receive {} {} {} {} ",
+            arrival.interface, arrival.sender, arrival.time, arrival.output
+        )
+        .into_bytes();
+        play::say_hex(&mut line, &arrival.packet);
+        self.emit(&line);
+    }
+
+    fn receive_packet(&mut self, link: Link, packet: Vec<u8>) {
+        let arrival = Arrival {
+            interface: u64::from(link.interface),
+            sender: link.neighbour,
+            time: self.now(),
+            output: self.output(packet.len()),
+            packet,
+        };
+        self.receive(arrival);
+    }
+
+    pub(super) fn own_on(&mut self, interface: u64) {
+        let mut hna = self.hna();
+        self.spoil_hna(&mut hna);
+        if self.random.chance(5) {
+            let length = self.random.pick(&[1461, 1465, 1466, 2000]);
+            hna.resize(length, 0);
+        }
+        let ttl = match self.random.below(40) {
+            0 => 0,
+            1 => 1,
+            2..8 => 2,
+            8..12 => 255,
+            _ => 50,
+        };
+        let output = self.output(HEADER_OCTETS + hna.len());
+        let interface = self.spoil_interface(interface);
+        let now = self.now();
+        let time = self.spoil_time(now);
+        let (flags, port) = (self.random.next() as u8, self.random.next() as u16);
+        let mut line =
+            format!("own {interface} {time} {ttl} {flags} {port} {output} ").into_bytes();
+        play::say_hex(&mut line, &hna);
+        self.emit(&line);
+    }
+
+    /// An own message that comes back as it should.
+    pub(super) fn echo(&mut self, neighbour: u32, interface: u64) {
+        if self.player.book.is_none() {
+            return;
+        }
+        let Some(number) = self.book().last[interface as usize] else {
+            return self.own_on(interface);
+        };
+        let own = self.settings().rows[interface as usize].own;
+        let flags = DIRECT | self.random.pick(&[0, 0, UNIDIRECTIONAL, 5]);
+        let ttl = self.random.pick(&[0, 1, 49, 49]);
+        let packet = self.packet(flags, ttl, number, own);
+        let link = Link {
+            neighbour,
+            interface: interface as u8,
+        };
+        self.receive_packet(link, packet);
+    }
+
+    /// An echo, at times with one thing wrong.
+    pub(super) fn any_echo(&mut self) {
+        let neighbour = self.neighbour();
+        let used = self.settings().used;
+        let interface = self.random.below(used);
+        if self.random.chance(800) {
+            return self.echo(neighbour, interface);
+        }
+        let book = self.book();
+        let first = book.settings.rows[interface as usize].first;
+        let last = book.last[interface as usize].unwrap_or(first.wrapping_sub(1));
+        let other = self.random.below(used) as usize;
+        let own = self.settings().rows[other].own;
+        let number = self.random.pick(&[
+            last,
+            last,
+            last.wrapping_add(1),
+            last.wrapping_sub(1),
+            0,
+            first,
+        ]);
+        let flags = self.random.pick(&[DIRECT, DIRECT, 0, UNIDIRECTIONAL, 63]);
+        let packet = self.packet(flags, 49, number, own);
+        let link = Link {
+            neighbour,
+            interface: interface as u8,
+        };
+        self.receive_packet(link, packet);
+    }
+
+    pub(super) fn message(&mut self, link: Link, originator: u32) {
+        let number = self.number(originator);
+        let ttl = self.ttl(originator);
+        let flags = self.flags();
+        let packet = self.packet(flags, ttl, number, originator);
+        self.receive_packet(link, packet);
+    }
+
+    /// A message of another node through a link that has a neighbour row.
+    pub(super) fn message_by_row(&mut self) {
+        let Some(link) = self.row_of_run() else {
+            return self.any_echo();
+        };
+        let direct = self.stage.kind != Kind::Runs && self.random.chance(120);
+        let originator = if direct {
+            link.neighbour
+        } else {
+            self.originator()
+        };
+        self.message(link, originator);
+    }
+
+    /// A number that moves the window just past the best link's marks, by another link, so
+    /// that best may stay with count 0.
+    pub(super) fn leave_best_behind(&mut self) {
+        let originator = self.originator();
+        let window = self.settings().window;
+        let list = self.book().list_of(originator);
+        let Some((best, current)) = words::best(list, window).zip(words::current(list, window))
+        else {
+            return self.message_by_row();
+        };
+        let marks = words::marks(list, window);
+        let behind = marks
+            .iter()
+            .filter(|(link, _)| *link == best)
+            .map(|(_, number)| current.wrapping_sub(*number))
+            .min()
+            .unwrap_or(0);
+        let rows: Vec<Link> = self.book().rows().map(|(link, _)| link).collect();
+        let others: Vec<Link> = rows.into_iter().filter(|link| *link != best).collect();
+        if others.is_empty() {
+            return self.message_by_row();
+        }
+        let link = self.random.pick(&others);
+        let number = current.wrapping_sub(behind).wrapping_add(window as u16);
+        let ttl = self.ttl(originator);
+        let packet = self.packet(0, ttl, number, originator);
+        self.receive_packet(link, packet);
+    }
+
+    /// A message through any link, direct or not.
+    pub(super) fn message_by_any(&mut self) {
+        let originator = self.originator();
+        let direct = self.random.chance(400);
+        let link = Link {
+            neighbour: if direct { originator } else { self.neighbour() },
+            interface: self.random.below(self.settings().used) as u8,
+        };
+        self.message(link, originator);
+    }
+
+    /// A counted message once more, with the same TTL or another, mostly by the same link.
+    pub(super) fn repeat(&mut self) {
+        let held: Vec<u32> = self.book().lists.keys().copied().collect();
+        if held.is_empty() {
+            return self.message_by_row();
+        }
+        let originator = self.random.pick(&held);
+        let back = self.random.below(6) as usize;
+        let list = self.book().list_of(originator);
+        let message = list[list.len() - 1 - back.min(list.len() - 1)];
+        let ttl = if self.random.chance(400) {
+            self.ttl(originator)
+        } else {
+            self.last_ttl(originator)
+        };
+        let link = match (self.random.chance(300), self.row()) {
+            (true, Some(other)) => other,
+            _ => message.link,
+        };
+        let flags = self.flags();
+        let packet = self.packet(flags, ttl, message.number, originator);
+        self.receive_packet(link, packet);
+    }
+
+    fn last_ttl(&self, originator: u32) -> u8 {
+        self.book()
+            .list_of(originator)
+            .last()
+            .map_or(2, |message| message.ttl)
+    }
+
+    /// Senders and originators that are own or broadcast addresses, or any.
+    pub(super) fn wild_receive(&mut self) {
+        let settings = self.settings();
+        let place = self.random.below(INTERFACES_MOST as u64) as usize;
+        let row = settings.rows[place];
+        let any = self.address();
+        let neighbour = self.neighbour();
+        let sender = self.random.pick(&[
+            row.own,
+            row.own,
+            row.broadcast,
+            row.broadcast,
+            any,
+            neighbour,
+        ]);
+        let held = self.originator();
+        let originator = self
+            .random
+            .pick(&[row.own, row.broadcast, any, held, sender]);
+        let link = Link {
+            neighbour: sender,
+            interface: self.random.below(settings.used) as u8,
+        };
+        self.message(link, originator);
+    }
+}

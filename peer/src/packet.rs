@@ -1,0 +1,83 @@
+//! The octets on the air: reading, writing and checking a packet, by document 01's layout.
+
+use crate::book::{refusal, Refusal};
+
+pub const HEADER_OCTETS: usize = 12;
+pub const PACKET_MOST: usize = 1472;
+pub const HNA_OCTETS: usize = 5;
+pub const MASK_MOST: u8 = 32;
+pub const UNIDIRECTIONAL: u8 = 128;
+pub const DIRECT: u8 = 64;
+
+/// The 12 octets of an originator message.
+#[derive(Clone, Copy, Debug, PartialEq)]
+pub struct Header {
+    pub version: u8,
+    pub flags: u8,
+    pub ttl: u8,
+    pub gateway_flags: u8,
+    pub number: u16,
+    pub gateway_port: u16,
+    pub originator: u32,
+}
+
+/// Reads the header of a packet that has at least 12 octets.
+pub fn read(packet: &[u8]) -> Header {
+    Header {
+        version: packet[0],
+        flags: packet[1],
+        ttl: packet[2],
+        gateway_flags: packet[3],
+        number: u16::from_be_bytes([packet[4], packet[5]]),
+        gateway_port: u16::from_be_bytes([packet[6], packet[7]]),
+        originator: u32::from_be_bytes([packet[8], packet[9], packet[10], packet[11]]),
+    }
+}
+
+/// Writes a header and HNA octets, the high octet of each number first.
+pub fn write(header: &Header, hna: &[u8]) -> Vec<u8> {
+    let mut octets = Vec::with_capacity(HEADER_OCTETS + hna.len());
+    octets.extend_from_slice(&[
+        header.version,
+        header.flags,
+        header.ttl,
+        header.gateway_flags,
+    ]);
+    octets.extend_from_slice(&header.number.to_be_bytes());
+    octets.extend_from_slice(&header.gateway_port.to_be_bytes());
+    octets.extend_from_slice(&header.originator.to_be_bytes());
+    octets.extend_from_slice(hna);
+    octets
+}
+
+/// Refusals 5 to 8 of a packet. A version above 255 equals that of no packet.
+pub fn fault(version: u64, packet: &[u8]) -> Result<(), Refusal> {
+    length_fault(packet.len())?;
+    if u64::from(packet[0]) != version {
+        return Err(refusal(6));
+    }
+    hna_fault(&packet[HEADER_OCTETS..])
+}
+
+/// Refusal 5, by the packet's length.
+pub fn length_fault(length: usize) -> Result<(), Refusal> {
+    if !(HEADER_OCTETS..=PACKET_MOST).contains(&length) {
+        return Err(refusal(5));
+    }
+    Ok(())
+}
+
+/// Refusals 7 and 8, of the HNA octets.
+pub fn hna_fault(hna: &[u8]) -> Result<(), Refusal> {
+    if hna.len() % HNA_OCTETS != 0 {
+        return Err(refusal(7));
+    }
+    let bad = |entry: &[u8]| entry[HNA_OCTETS - 1] > MASK_MOST;
+    match hna.chunks(HNA_OCTETS).position(bad) {
+        Some(place) => Err(Refusal {
+            number: 8,
+            place: place as u64,
+        }),
+        None => Ok(()),
+    }
+}

@@ -1,0 +1,523 @@
+//! The examples of document 01, its "Errors that come easily", and self-checks of the peer.
+
+use crate::book::{cells_needed, Book};
+use crate::cells;
+use crate::generate::generate;
+use crate::packet;
+use crate::play::{self, Ending, Lent, Player};
+use crate::script::{self, Line};
+use crate::words::{self, Counted, Link};
+
+const A: Link = link(10);
+const B: Link = link(11);
+const C: Link = link(12);
+const FAR: u32 = 99;
+
+const fn link(neighbour: u32) -> Link {
+    Link {
+        neighbour,
+        interface: 0,
+    }
+}
+
+/// A list of counted messages, given as links and numbers.
+fn list(messages: &[(Link, u16)]) -> Vec<Counted> {
+    messages
+        .iter()
+        .map(|(link, number)| Counted {
+            number: *number,
+            link: *link,
+            time: 0,
+            ttl: 50,
+        })
+        .collect()
+}
+
+/// The numbers marked on a link.
+fn marked(list: &[Counted], window: u64, link: Link) -> Vec<u16> {
+    words::marks(list, window)
+        .iter()
+        .filter(|(other, _)| *other == link)
+        .map(|(_, number)| *number)
+        .collect()
+}
+
+/// Plays lines and gives what was printed.
+fn played(lines: &[String]) -> Vec<String> {
+    let mut output = Vec::new();
+    let script = lines.join("\n");
+    match play::play(&mut script.as_bytes(), &mut output, false) {
+        Ok(Ending::Whole) => (),
+        _ => panic!("a script that ends whole"),
+    }
+    let text = String::from_utf8(output).expect("plain text");
+    text.lines().map(str::to_string).collect()
+}
+
+fn last(lines: &[String]) -> String {
+    played(lines).pop().expect("a printed line")
+}
+
+/// A table with W and B, one interface (own 1, broadcast 255) that sends from `first` on.
+fn table(window: u64, timeout: u64, first: u16) -> Vec<String> {
+    vec![
+        "cells 269".to_string(),
+        format!("make 4 {window} {timeout} 1000 8 1 1 255 {first} 0 0 0 0 0 0 0 0 0"),
+    ]
+}
+
+fn own() -> String {
+    "own 0 0 50 0 0 12 -".to_string()
+}
+
+fn receive(sender: u32, flags: u8, ttl: u8, number: u16, originator: u32) -> String {
+    format!("receive 0 {sender} 0 12 04{flags:02x}{ttl:02x}00{number:04x}0000{originator:08x}")
+}
+
+fn echo(sender: u32, number: u16) -> String {
+    receive(sender, 64, 49, number, 1)
+}
+
+/// A table with W = 8 and neighbour rows for A, B and C.
+fn with_rows() -> Vec<String> {
+    let mut lines = table(8, 32, 7);
+    lines.push(own());
+    lines.extend([A, B, C].iter().map(|link| echo(link.neighbour, 7)));
+    lines
+}
+
+fn feed(lines: &mut Vec<String>, messages: &[(Link, u16)]) {
+    for (link, number) in messages {
+        lines.push(receive(link.neighbour, 0, 50, *number, FAR));
+    }
+}
+
+#[test]
+fn p1_inside_and_outside() {
+    assert!(words::inside(10, 3, 8));
+    assert!(!words::inside(10, 2, 8));
+    assert!(!words::inside(10, 11, 8));
+}
+
+#[test]
+fn p2_window_over_the_wrap() {
+    assert!(words::inside(5, 65534, 8));
+    assert!(!words::inside(5, 65533, 8));
+}
+
+#[test]
+fn p3_a_move_forgets() {
+    let after = list(&[(A, 10), (A, 7), (A, 3), (A, 12)]);
+    assert_eq!(marked(&after, 8, A), [7, 10, 12]);
+    assert_eq!(words::words(&after, 8).unwrap().count(A), 3);
+}
+
+#[test]
+fn p4_moves_by_seven_and_eight() {
+    assert_eq!(marked(&list(&[(A, 10), (A, 17)]), 8, A), [10, 17]);
+    assert_eq!(marked(&list(&[(A, 10), (A, 18)]), 8, A), [18]);
+}
+
+#[test]
+fn p5_a_late_number_is_new() {
+    let after = list(&[(A, 10), (A, 2)]);
+    assert_eq!(words::current(&after, 8), Some(2));
+    assert_eq!(marked(&after, 8, A), [2]);
+}
+
+#[test]
+fn p6_window_of_one() {
+    assert!(words::duplicate(&list(&[(A, 10)]), 1, A, 10));
+    assert!(!words::duplicate(&list(&[(A, 10)]), 1, B, 10));
+}
+
+#[test]
+fn p7_best_is_not_the_maximum() {
+    let messages = [(A, 3), (A, 4), (A, 5), (C, 9), (C, 10), (B, 12)];
+    let after = list(&messages);
+    let words = words::words(&after, 8).unwrap();
+    assert_eq!(words.best, A);
+    assert_eq!(words.held, [(A, 1), (B, 1), (C, 2)]);
+    assert_eq!(marked(&after, 8, A), [5]);
+    let mut lines = with_rows();
+    feed(&mut lines, &messages);
+    lines.push(format!("list {FAR} 3"));
+    let printed = played(&lines);
+    let rows = [
+        "list 0 3",
+        "row 10 0 1 8 1",
+        "row 11 0 1 8 0",
+        "row 12 0 2 8 0",
+    ];
+    assert_eq!(printed[printed.len() - 4..], rows);
+}
+
+#[test]
+fn p8_a_tie_goes_to_the_receiving_link() {
+    let before = list(&[(C, 9), (A, 9), (A, 10)]);
+    assert_eq!(words::best(&before, 8), Some(A));
+    let after = list(&[(C, 9), (A, 9), (A, 10), (C, 10)]);
+    assert_eq!(words::best(&after, 8), Some(C));
+}
+
+#[test]
+fn p9_from_the_originator_without_a_row() {
+    let mut lines = table(8, 32, 7);
+    lines.push(receive(FAR, 0, 50, 300, FAR));
+    assert_eq!(
+        last(&lines),
+        "receive 26 0 0 0 0 0 0 04c03100012c000000000063"
+    );
+}
+
+#[test]
+fn p10_a_relayed_message_loses_d() {
+    let mut lines = with_rows();
+    lines.push(receive(10, 69, 50, 300, FAR));
+    assert_eq!(
+        last(&lines),
+        "receive 26 0 5 10 0 1 8 04053100012c000000000063"
+    );
+}
+
+#[test]
+fn p11_distance_over_the_wrap() {
+    for (timeout, verdict) in [(4, "receive 25"), (5, "receive 26")] {
+        let mut lines = table(8, timeout, 65535);
+        lines.extend([own(), echo(10, 65535)]);
+        lines.extend((0..4).map(|_| own()));
+        lines.push(receive(10, 0, 50, 1, FAR));
+        assert!(last(&lines).starts_with(verdict));
+    }
+}
+
+#[test]
+fn p12_the_octets_of_a_header() {
+    let octets = script::hex(b"04003200012c00000a010007").unwrap();
+    let header = packet::read(&octets);
+    assert_eq!((header.version, header.flags, header.ttl), (4, 0, 50));
+    assert_eq!((header.number, header.originator), (300, 0x0a01_0007));
+    assert_eq!(packet::write(&header, &[]), octets);
+}
+
+#[test]
+fn lengths_and_masks() {
+    let of = |octets: usize| {
+        let mut packet = vec![0; octets];
+        packet[0] = 4;
+        packet
+    };
+    assert!(packet::fault(4, &of(1472)).is_ok());
+    assert_eq!(packet::fault(4, &of(1473)).unwrap_err().number, 5);
+    assert_eq!(packet::fault(4, &of(16)).unwrap_err().number, 7);
+    assert_eq!(packet::fault(4, &[]).unwrap_err().number, 5);
+    let mut masks = of(27);
+    masks[16] = 32;
+    assert!(packet::fault(4, &masks).is_ok());
+    (masks[21], masks[26]) = (33, 255);
+    let refusal = packet::fault(4, &masks).unwrap_err();
+    assert_eq!((refusal.number, refusal.place), (8, 1));
+    assert_eq!(packet::fault(260, &masks).unwrap_err().number, 6);
+}
+
+#[test]
+fn ttl_two_leaves_as_one_and_less_stays() {
+    let mut lines = with_rows();
+    lines.push(receive(10, 0, 2, 300, FAR));
+    assert!(last(&lines).ends_with(" 04000100012c000000000063"));
+    for ttl in [0, 1] {
+        let mut lines = with_rows();
+        lines.push(receive(10, 0, ttl, 300, FAR));
+        // It is counted all the same, and nothing is taken from TTL 0.
+        assert_eq!(last(&lines), "receive 25 0 0 10 0 1 8 -");
+        lines.push(receive(FAR, 0, ttl, 301, FAR));
+        assert_eq!(last(&lines), "receive 25 0 0 10 0 1 8 -");
+    }
+}
+
+#[test]
+fn error_best_as_the_maximum() {
+    let counts = list(&[(A, 3), (A, 4), (A, 5), (C, 9), (C, 10), (B, 12)]);
+    assert_ne!(words::best(&counts, 8), Some(C));
+}
+
+#[test]
+fn error_duplicates_judged_after_counting() {
+    let mut lines = with_rows();
+    feed(&mut lines, &[(A, 300)]);
+    lines.push(receive(10, 0, 40, 301, FAR));
+    assert!(last(&lines).starts_with("receive 26"));
+}
+
+#[test]
+fn error_d_kept_from_a_relay() {
+    let mut lines = with_rows();
+    lines.push(receive(10, 64, 50, 300, FAR));
+    assert!(last(&lines).ends_with(" 04003100012c000000000063"));
+}
+
+#[test]
+fn error_one_subtracted_from_ttl_0() {
+    let mut lines = table(8, 32, 7);
+    lines.push(receive(FAR, 0, 0, 300, FAR));
+    assert_eq!(last(&lines), "receive 25 0 0 0 0 0 0 -");
+}
+
+#[test]
+fn error_numbers_compared_without_the_wrap() {
+    let after = list(&[(A, 65535), (A, 0), (A, 1)]);
+    assert_eq!(words::current(&after, 8), Some(1));
+    assert_eq!(marked(&after, 8, A), [0, 1, 65535]);
+    let mut lines = table(8, 32, 65535);
+    lines.extend([own(), own()]);
+    assert!(last(&lines).starts_with("own 0 0 12 0 "));
+    lines.push(echo(10, 0));
+    assert!(last(&lines).starts_with("receive 22"));
+}
+
+#[test]
+fn duplicates_are_passed_on_by_the_last_ttl() {
+    let mut lines = with_rows();
+    feed(&mut lines, &[(A, 300), (A, 300)]);
+    assert!(last(&lines).starts_with("receive 26"));
+    lines.push(receive(10, 0, 49, 300, FAR));
+    assert!(last(&lines).starts_with("receive 25"));
+}
+
+#[test]
+fn a_forgotten_number_counts_again() {
+    let back = list(&[(A, 10), (A, 20), (B, 10)]);
+    assert!(!words::duplicate(&back, 8, A, 10));
+    assert_eq!(marked(&back, 8, A), []);
+}
+
+#[test]
+fn an_echo_needs_an_interface_that_has_sent() {
+    let mut lines = table(8, 32, 1);
+    lines.push(echo(10, 0));
+    assert!(last(&lines).starts_with("receive 23"));
+}
+
+#[test]
+fn the_ninth_link_is_refused_unless_one_gives_way() {
+    let mut lines = table(8, 32, 7);
+    lines.push(own());
+    lines.extend((20..29).map(|sender| echo(sender, 7)));
+    lines.extend((20..28).map(|sender| receive(sender, 0, 50, 10, FAR)));
+    lines.push(receive(28, 0, 50, 10, FAR));
+    assert_eq!(last(&lines), "receive 11 0 0 0 0 0 0 -");
+    lines.pop();
+    lines.push(receive(28, 0, 50, 18, FAR));
+    assert!(last(&lines).starts_with("receive 26"));
+    lines.push(format!("list {FAR} 1"));
+    assert_eq!(last(&lines), "row 28 0 1 8 1");
+}
+
+#[test]
+fn the_thirty_third_row_is_refused() {
+    let mut lines = table(8, 32, 7);
+    lines.push(own());
+    lines.extend((20..52).map(|sender| echo(sender, 7)));
+    assert!(last(&lines).starts_with("receive 22"));
+    lines.push(echo(52, 7));
+    assert!(last(&lines).starts_with("receive 9 "));
+    lines.pop();
+    lines.push(echo(51, 7));
+    assert!(last(&lines).starts_with("receive 22"));
+}
+
+#[test]
+fn a_sweep_keeps_what_is_exactly_the_timeout_old() {
+    let mut lines = with_rows();
+    feed(&mut lines, &[(A, 300)]);
+    lines.push("sweep 1000".to_string());
+    assert_eq!(last(&lines), "sweep 0 0");
+    lines.push("sweep 1001".to_string());
+    assert_eq!(last(&lines), "sweep 0 1");
+    lines.push("sweep 1000".to_string());
+    assert_eq!(last(&lines), "sweep 3 0");
+}
+
+#[test]
+fn refusals_come_in_ascending_order() {
+    let lines = |line: &str| {
+        let mut lines = with_rows();
+        lines.push("sweep 5".to_string());
+        lines.push(line.to_string());
+        last(&lines)
+    };
+    assert_eq!(lines("own 1 0 0 0 0 0 00"), "own 2 0 0 0 -");
+    assert_eq!(lines("own 0 0 0 0 0 0 00"), "own 3 0 0 0 -");
+    assert_eq!(lines("own 0 5 0 0 0 12 00"), "own 4 0 0 0 -");
+    assert_eq!(lines("own 0 5 0 0 0 13 00"), "own 7 0 0 0 -");
+    assert_eq!(lines("own 0 5 0 0 0 17 0000000021"), "own 8 0 0 0 -");
+    assert_eq!(lines("own 0 5 1 0 0 17 0000000020"), "own 13 0 0 0 -");
+}
+
+#[test]
+fn lines_that_cant_be_read() {
+    for line in ["best 1 1", "best", "best\t1", "best 1\r", "cells 66561"] {
+        assert_eq!(script::read(line.as_bytes()), Line::Unreadable, "{line}");
+    }
+    for line in ["", "   ", "#", "  # best 1"] {
+        assert_eq!(script::read(line.as_bytes()), Line::Nothing, "{line}");
+    }
+    assert_eq!(script::read(&[b'#'; 8193]), Line::Unreadable);
+    assert_eq!(script::read(&[b'#'; 8192]), Line::Nothing);
+}
+
+/// A table with two neighbour rows of three and a record with two links.
+fn example_cells() -> Vec<u64> {
+    let mut player = Player::new();
+    let mut lines = with_rows();
+    feed(&mut lines, &[(A, 300), (B, 300), (A, 301)]);
+    lines.push(receive(11, 0, 50, 300, 200));
+    for line in lines {
+        play::play_line(&mut player, 0, line.as_bytes(), &mut Vec::new()).unwrap();
+    }
+    assert_eq!(player.state(), Lent::Book);
+    player.cells().to_vec()
+}
+
+#[test]
+fn one_cell_breaks_a_table() {
+    let cells = example_cells();
+    assert!(cells::well_formed(&cells));
+    let record = cells::RECORDS;
+    let breaking = [
+        (0, 256),
+        (1, 0),
+        (1, 65),
+        (1, 1),
+        (2, 0),
+        (2, 1001),
+        (3, 0),
+        (3, 1 << 32),
+        (4, 7),
+        (4, 9),
+        (5, 0),
+        (5, 2 + 3),
+        (7, 2),
+        (7, 4),
+        (8, 1),
+        (8, 3),
+        (9, 1 << 32),
+        (9, 99),
+        (10, 1 << 32),
+        (11, 65536),
+        (12, 0),
+        (12, 2),
+        (13, 65536),
+        (13, 6),
+        (14, 1),
+        (29, 1 << 34),
+        (29, 41),
+        (29, 44),
+        (30, 6 + 65536),
+        (30, 8),
+        (35, 1),
+        (record, 1),
+        (record, 200),
+        (record, 1 << 32),
+        (record + 1, 65536),
+        (record + 2, 1),
+        (record + 3, 256),
+        (record + 4, 0),
+        (record + 4, 1),
+        (record + 4, 3),
+        (record + 4, 9),
+        (record + 5, 48),
+        (record + 6, 44),
+        (record + 6, 41),
+        (record + 7, 256),
+        (record + 9, 0),
+        (record + 10, 1),
+        (record + 44, 1),
+        (268, 1),
+    ];
+    for (index, value) in breaking {
+        let mut broken = cells.clone();
+        broken[index] = value;
+        assert!(!cells::well_formed(&broken), "cell {index} set to {value}");
+    }
+    assert!(!cells::well_formed(&cells[..cells.len() - 1]));
+    let longer = [cells.as_slice(), &[0]].concat();
+    assert!(!cells::well_formed(&longer));
+}
+
+#[test]
+fn cells_may_break_and_be_mended() {
+    let mut lines = with_rows();
+    feed(&mut lines, &[(A, 300)]);
+    let asked = format!("best {FAR}");
+    let (whole, broken) = ("best 0 10 0 1 8", "best 1 0 0 0 0");
+    let changes = [
+        ("cells 268", broken),
+        ("cells 269", whole),
+        ("poke 1 0", broken),
+        ("cells 66560", broken),
+        ("cells 269", broken),
+        ("poke 1 8", whole),
+        ("poke 269 5", whole),
+    ];
+    for (change, answer) in changes {
+        lines.extend([change.to_string(), asked.clone()]);
+        assert_eq!(last(&lines), answer, "after {change}");
+    }
+    lines.extend(["poke 0 300".to_string(), table(8, 32, 7)[1].clone()]);
+    assert_eq!(last(&lines), "make 0");
+    lines.push(asked);
+    assert_eq!(last(&lines), "best 0 0 0 0 0");
+}
+
+#[test]
+fn a_table_without_a_history_ends_the_play() {
+    let mut lines = with_rows();
+    lines.extend(["poke 6 9".to_string(), "best 1".to_string()]);
+    let script = lines.join("\n");
+    let ending = play::play(&mut script.as_bytes(), &mut Vec::new(), false);
+    assert!(matches!(ending, Ok(Ending::Outside(8))));
+}
+
+#[test]
+fn fresh_tables_are_well_formed_and_zeros_are_not() {
+    let Line::Call(script::Call::Make { settings }) = script::read(table(8, 4, 0)[1].as_bytes())
+    else {
+        panic!("a make line");
+    };
+    let book = Book::make(settings, 269).ok().unwrap();
+    let mut fresh = vec![7; cells_needed(8) as usize];
+    cells::encode(&book, &mut fresh);
+    assert!(cells::well_formed(&fresh));
+    assert!(!cells::well_formed(&vec![0; 269]));
+    assert!(!cells::well_formed(&[]));
+}
+
+#[test]
+fn generated_scripts_play_to_their_end() {
+    for seed in 1..=8 {
+        let mut script = Vec::new();
+        generate(seed, 20_000, &mut script).unwrap();
+        let mut player = Player::new();
+        let mut printed = Vec::new();
+        for (place, line) in script.split(|octet| *octet == b'\n').enumerate() {
+            printed.clear();
+            play::play_line(&mut player, place as u64, line, &mut printed).unwrap();
+            // What the book says is always a well-formed table.
+            if place % 64 == 0 && player.state() == Lent::Book {
+                assert!(cells::well_formed(player.cells()));
+            }
+        }
+    }
+}
+
+#[test]
+fn a_seed_gives_one_script() {
+    let script = |seed| {
+        let mut script = Vec::new();
+        generate(seed, 2_000, &mut script).unwrap();
+        script
+    };
+    assert_eq!(script(3), script(3));
+    assert_ne!(script(3), script(4));
+}

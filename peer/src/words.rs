@@ -1,0 +1,160 @@
+//! The book's words for one originator, each computed from its list of counted messages:
+//! current, marks, counts, best and held links, as demand 3 says them.
+
+/// A link: rising by neighbour address, then interface.
+#[derive(Clone, Copy, Debug, PartialEq, Eq, PartialOrd, Ord)]
+pub struct Link {
+    pub neighbour: u32,
+    pub interface: u8,
+}
+
+/// A counted originator message.
+#[derive(Clone, Copy, Debug, PartialEq)]
+pub struct Counted {
+    pub number: u16,
+    pub link: Link,
+    pub time: u64,
+    pub ttl: u8,
+}
+
+/// What a held record's list says. `held` rises by link and gives each one's count.
+#[derive(Clone, Debug, PartialEq)]
+pub struct Words {
+    pub best: Link,
+    pub held: Vec<(Link, u64)>,
+}
+
+impl Words {
+    /// The count of a held link.
+    pub fn count(&self, link: Link) -> u64 {
+        count_in(&self.held, link)
+    }
+}
+
+fn count_in(counts: &[(Link, u64)], link: Link) -> u64 {
+    counts
+        .iter()
+        .find(|(other, _)| *other == link)
+        .map_or(0, |(_, count)| *count)
+}
+
+/// Whether a number lies inside the window of a current number.
+pub fn inside(current: u16, number: u16, window: u64) -> bool {
+    let width = if cfg!(wrong = "window") {
+        window + 1
+    } else {
+        window
+    };
+    u64::from(current.wrapping_sub(number)) < width
+}
+
+/// The places in the list of the numbers that were first or new: each became current.
+fn moves(list: &[Counted], window: u64) -> Vec<usize> {
+    let mut places: Vec<usize> = Vec::new();
+    for (place, message) in list.iter().enumerate() {
+        let moved = match places.last() {
+            None => true,
+            Some(last) => !inside(list[*last].number, message.number, window),
+        };
+        if moved {
+            places.push(place);
+        }
+    }
+    places
+}
+
+/// The current number: the list's last that was first or new.
+pub fn current(list: &[Counted], window: u64) -> Option<u16> {
+    moves(list, window).last().map(|place| list[*place].number)
+}
+
+/// Whether the message at this place still marks its link: its number lay inside after its
+/// own count (it does by itself) and after every later one. Only moves can put it outside.
+fn survives(list: &[Counted], moves: &[usize], window: u64, place: usize) -> bool {
+    moves
+        .iter()
+        .rev()
+        .take_while(|later| **later > place)
+        .all(|later| inside(list[*later].number, list[place].number, window))
+}
+
+/// The marks after the whole list: link and number, rising, each once.
+pub fn marks(list: &[Counted], window: u64) -> Vec<(Link, u16)> {
+    marks_by(list, &moves(list, window), window)
+}
+
+fn marks_by(list: &[Counted], moves: &[usize], window: u64) -> Vec<(Link, u16)> {
+    let mut marks: Vec<(Link, u16)> = (0..list.len())
+        .filter(|place| survives(list, moves, window, *place))
+        .map(|place| (list[place].link, list[place].number))
+        .collect();
+    marks.sort_unstable();
+    marks.dedup();
+    marks
+}
+
+/// The counts of the links that have a mark, rising by link.
+fn counts_by(list: &[Counted], moves: &[usize], window: u64) -> Vec<(Link, u64)> {
+    let mut counts: Vec<(Link, u64)> = Vec::new();
+    for (link, _) in marks_by(list, moves, window) {
+        match counts.last_mut() {
+            Some((last, count)) if *last == link => *count += 1,
+            _ => counts.push((link, 1)),
+        }
+    }
+    counts
+}
+
+/// Whether a message is a duplicate: its number is marked on this link.
+/// A mark lies inside the window, so the window need not be asked again.
+pub fn duplicate(list: &[Counted], window: u64, link: Link, number: u16) -> bool {
+    let same = |message: &Counted| message.link == link && message.number == number;
+    match list.iter().rposition(same) {
+        None => false,
+        Some(place) => survives(list, &moves(list, window), window, place),
+    }
+}
+
+/// The best link: that of the latest message after whose count no other link stood higher.
+pub fn best(list: &[Counted], window: u64) -> Option<Link> {
+    best_by(list, &moves(list, window), window)
+}
+
+fn best_by(list: &[Counted], moves: &[usize], window: u64) -> Option<Link> {
+    if cfg!(wrong = "best") {
+        return highest(&counts_by(list, moves, window));
+    }
+    let none_higher = |place: &usize| {
+        let until = moves.partition_point(|moved| moved <= place);
+        let counts = counts_by(&list[..=*place], &moves[..until], window);
+        let own = count_in(&counts, list[*place].link);
+        counts.iter().all(|(_, count)| *count <= own)
+    };
+    let place = (0..list.len()).rev().find(none_higher)?;
+    Some(list[place].link)
+}
+
+/// The wrong copy "best": the link with the highest count, the first of equals.
+fn highest(counts: &[(Link, u64)]) -> Option<Link> {
+    let top = counts.iter().map(|(_, count)| *count).max()?;
+    counts
+        .iter()
+        .find(|(_, count)| *count == top)
+        .map(|(link, _)| *link)
+}
+
+/// The links with a mark, and best, rising by link, each with its count.
+pub fn held(list: &[Counted], window: u64) -> Vec<(Link, u64)> {
+    words(list, window).map_or_else(Vec::new, |words| words.held)
+}
+
+/// All words of a list; none where it is empty, since no record is then held.
+pub fn words(list: &[Counted], window: u64) -> Option<Words> {
+    let moves = moves(list, window);
+    let best = best_by(list, &moves, window)?;
+    let mut held = counts_by(list, &moves, window);
+    if let Err(place) = held.binary_search_by_key(&best, |(link, _)| *link) {
+        held.insert(place, (best, 0));
+    }
+    Some(Words { best, held })
+}
