@@ -1,3 +1,2 @@
-pub mod Cells
-pub mod Places
+-- A record's row after counting.
 pub mod Rows

@@ -25,9 +25,9 @@ use Rattle.rules.proofs.Counting.{advance-inside}
 use Rattle.record.specs.Record.{addressAt, currentAt, timeAt, lastTtlAt, linksAt, bestAt, linksOf, encodeRecord, decodeRecord, Held}
 use Rattle.record.proofs.Routes.{links-sorted}
 use Rattle.counting.specs.Counting.{ogm, Counted}
-use Rattle.counting.specs.Links.{Links, moved, stays, chosen, scratchCells, Built, Recounted}
-use Rattle.counting.proofs.Cells.{cellsOf}
-use Rattle.counting.proofs.Places.{mark-has}
+use Rattle.links.specs.Links.{Links, moved, stays, chosen, scratchCells, Built, Recounted}
+use Rattle.links.proofs.Cells.{cellsOf}
+use Rattle.links.proofs.Places.{mark-has}
 
 -- five fields and the links written
 pub store-cells : (row links : List ℕ) (a b c d e : ℕ) → length row ≡ recordCells → length links ≡ linkMost * linkCells

@@ -1,3 +1,2 @@
 -- Counting an originator message in a record's cells.
 pub mod Counting
-pub mod Links

@@ -1,9 +1,8 @@
 // Counting an originator message in a record's row of cells, and what is asked of a record when a message arrives.
-// This link is the one that the message came by, and `key` its pair of neighbour address and interface. `w` is the window size,
-// and `d` how far current moves up: 0 where the window stays, so that every link's marks are shifted by d and none is asked whether they move.
-use cells::Found;
-use cells::find;
+// `key` is the pair of neighbour address and interface that the message came by, and `w` the window size.
 use cells::write;
+use links::push;
+use links::recount;
 use record::ADDRESS;
 use record::BEST;
 use record::CURRENT;
@@ -15,184 +14,25 @@ use record::ROOM;
 use record::TIME;
 use record::marks_of;
 use window::advance;
-use window::count;
 use window::distance;
 use window::inside;
 use window::is_marked;
 use window::mark;
-use window::shift;
 ghost use mathlib.Core.Path.{_≡_};
-ghost use mathlib.Core.List.{_∷_, _++_};
-ghost use Prim.Native.Nat.{_+_, _*_, _≤_, _<_};
+ghost use mathlib.Core.List.{_∷_};
+ghost use Prim.Native.Nat.{_*_, _≤_};
 ghost use lib.Dec.{eqb};
 ghost use lib.ListN.{length, getD};
-ghost use Rattle.lists.specs.Lists.{keep};
-ghost use Rattle.cells.specs.Find.{Sorted};
-ghost use Rattle.cells.specs.Pairs.{pairsOf};
 ghost use Rattle.rules.specs.Settings.{Config, windowMost, linkMost, linkCells, recordCells};
-ghost use Rattle.rules.specs.Table.{isHighest, firstRecord, isMarked};
+ghost use Rattle.rules.specs.Table.{firstRecord, isMarked};
 ghost use Rattle.record.specs.Record.{addressAt, encodeRecord, decodeRecord, Held};
 ghost use Rattle.counting.specs.Counting.{ogm, Counted};
-ghost use Rattle.counting.specs.Links as L;
-ghost use Rattle.counting.specs.Links.{Links, Blank, Located, Built, Arranged, Recounted};
 
 // The cells of a record's links.
 const AREA: usize = ROOM as usize * LINK;
 
 // Room for one link more: the ninth is there only until it is known whether another gives up its place.
 const SCRATCH: usize = AREA + LINK;
-
-// Whether a link has a mark or is best.
-fn stays(best: u64, key: u64, marks: u64) -> bool
-    ensures { λ r. ⌜ r ≡ L.stays best (key, marks) ⌝ }
-{
-    (0 < marks) | (key == best)
-}
-
-// Whether a link is this one, or has no higher count than this one's.
-fn yields(this: u64, high: u32, key: u64, marks: u64) -> bool
-    ensures { λ r. ⌜ ((κ : Config) → r ≡ L.yields κ this high (key, marks)) ⌝ }
-{
-    (key == this) | (count(marks) <= high)
-}
-
-// Writes a link at place m.
-fn push(out: &mut [u64], m: usize, key: u64, marks: u64)
-    requires { ⌜ m * linkCells + 1 < length (now out) ⌝ }
-    ensures { λ _. ⌜ ((rest goal : Links) → Built (now (out .entry)) m ((key, marks) ∷ rest) goal → Built (now (out .exit)) (m + 1) rest goal) ⌝ }
-{
-    let at = m * LINK;
-    out[at] = key;
-    out[at + 1] = marks;
-}
-
-// Writes, from place m on, those of n links that keep their place once current has moved up; answers how many are written then.
-fn keep_links(out: &mut [u64], m: usize, part: &[u64], n: usize, w: u64, d: u64, best: u64) -> usize
-    requires { ⌜ (n * linkCells ≤ length (now part)) × ((m + n) * linkCells ≤ length (now out)) × (1 ≤ w) × (w ≤ windowMost) ⌝ }
-    ensures { λ r. ⌜ (r ≤ m + n) × ((rest goal : Links) → Built (now (out .entry)) m (keep (L.stays best) (L.moved w d n (now (part .entry))) ++ rest) goal → Built (now (out .exit)) r rest goal) ⌝ }
-{
-    let mut k = m;
-    let mut at = 0;
-    let mut left = n;
-    while 0 < left {
-        let key = part[at];
-        let marks = shift(w, d, part[at + 1]);
-        if stays(best, key, marks) {
-            push(out, k, key, marks);
-            k += 1;
-        }
-        at += LINK;
-        left -= 1;
-    }
-    k
-}
-
-// Whether no other link has a higher count than this one with these marks, once current has moved up.
-fn is_highest(part: &[u64], n: usize, w: u64, d: u64, key: u64, marks: u64) -> bool
-    requires { ⌜ (n * linkCells ≤ length (now part)) × (1 ≤ w) × (w ≤ windowMost) ⌝ }
-    ensures { λ r. ⌜ ((κ : Config) → r ≡ isHighest κ key marks (L.moved w d n (now (part .entry)))) ⌝ }
-{
-    let high = count(marks);
-    let mut at = 0;
-    let mut left = n;
-    while 0 < left {
-        if !yields(key, high, part[at], shift(w, d, part[at + 1])) {
-            break;
-        }
-        at += LINK;
-        left -= 1;
-    }
-    left == 0
-}
-
-// Best once this link has these marks: this link where no other has a higher count; otherwise best stays, even with count 0.
-fn choose(part: &[u64], n: usize, w: u64, d: u64, key: u64, marks: u64, best: u64) -> u64
-    requires { ⌜ (n * linkCells ≤ length (now part)) × (1 ≤ w) × (w ≤ windowMost) ⌝ }
-    ensures { λ r. ⌜ ((κ : Config) → r ≡ L.chosen κ key marks best (L.moved w d n (now (part .entry)))) ⌝ }
-{
-    if is_highest(part, n, w, d, key, marks) {
-        return key;
-    }
-    best
-}
-
-// How many links counting leaves, and the best one's key.
-struct Done {
-    links: usize,
-    best: u64,
-}
-
-// Writes the links in their order, this one between the first `low` and those from `high` on, without those that give up their place.
-fn arrange(
-    out: &mut [u64],
-    part: &[u64],
-    n: usize,
-    low: usize,
-    high: usize,
-    w: u64,
-    d: u64,
-    key: u64,
-    marks: u64,
-    best: u64,
-) -> Done
-    requires { ⌜ (n * linkCells ≤ length (now part)) × (n ≤ linkMost) × (low ≤ high) × (high ≤ n) × (1 ≤ w) × (w ≤ windowMost) ⌝ }
-    requires { ⌜ Blank (now out) ⌝ }
-    ensures { λ r. ⌜ Arranged (now (out .exit)) (r .links) (r .best) low high key marks best (L.moved w d n (now (part .entry))) ⌝ }
-{
-    let b = choose(part, n, w, d, key, marks, best);
-    let m = keep_links(out, 0, part, low, w, d, b);
-    push(out, m, key, marks);
-    let from = high * LINK;
-    let links = keep_links(out, m + 1, &part[from..], n - high, w, d, b);
-    Done { links, best: b }
-}
-
-// Where this link stands or would come in: the first `low` links are below it, those from `high` on above. Not held, it has no marks.
-struct Spot {
-    low: usize,
-    high: usize,
-    marks: u64,
-}
-
-// Finds this link among n links.
-fn locate(part: &[u64], n: usize, key: u64) -> Spot
-    requires { ⌜ Sorted linkCells n (now part) ⌝ }
-    ensures { λ r. ⌜ Located (pairsOf n (now (part .entry))) key (r .low) (r .high) (r .marks) ⌝ }
-{
-    let f = find(part, LINK, n, key);
-    match f {
-        Found::At(i) => Spot {
-            low: i,
-            high: i + 1,
-            marks: part[i * LINK + 1],
-        },
-        Found::Place(i) => Spot {
-            low: i,
-            high: i,
-            marks: 0,
-        },
-    }
-}
-
-// Writes the links after counting: current moves up, and the number k below it is marked on this link.
-fn recount(
-    out: &mut [u64],
-    part: &[u64],
-    n: usize,
-    w: u64,
-    d: u64,
-    k: u64,
-    key: u64,
-    best: u64,
-) -> Done
-    requires { ⌜ Sorted linkCells n (now part) × (n ≤ linkMost) × (1 ≤ w) × (w ≤ windowMost) × (k < windowMost) ⌝ }
-    requires { ⌜ Blank (now out) ⌝ }
-    ensures { λ r. ⌜ Recounted (now (out .exit)) (r .links) (r .best) key k best (L.moved w d n (now (part .entry))) ⌝ }
-{
-    let spot = locate(part, n, key);
-    let marks = mark(shift(w, d, spot.marks), k);
-    arrange(out, part, n, spot.low, spot.high, w, d, key, marks, best)
-}
 
 // Writes a record's cells after its address.
 fn store(row: &mut [u64], current: u64, time: u64, ttl: u64, n: u64, best: u64, links: &[u64])

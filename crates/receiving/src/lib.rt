@@ -1,7 +1,4 @@
 // A received packet: its refusals, its verdict, the echo's neighbour row, the counted record, and the copy that is passed on.
-mod others;
-
-use crate::others::decide;
 use arrivals::Arrival;
 use arrivals::refused;
 use arrivals::verdict;
@@ -16,6 +13,7 @@ use layout::TIME;
 use layout::USED;
 use layout::VERSION;
 use record::INTERFACES;
+use relaying::decide;
 use rules::Received;
 use table::well_formed;
 use wire::Fault;

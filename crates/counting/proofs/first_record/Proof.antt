@@ -5,7 +5,7 @@ use Prim.Native.Nat.{_*_}
 use native.Mathlib.Omega.{arith}
 use lib.ListN.{length-set}
 use Rattle.rules.specs.Settings.{linkMost, linkCells}
-use Rattle.counting.proofs.Cells.{built-start}
+use Rattle.links.proofs.Cells.{built-start}
 use Rattle.counting.proofs.Rows.{first-cells}
 use Rattle.counting.proofs.first_record.Statement.{statement}
 use Rattle.counting.proofs.first_record.Tie as tie

@@ -1,0 +1,2 @@
+-- The links of one originator while a message is counted.
+pub mod Links

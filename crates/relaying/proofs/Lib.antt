@@ -1,0 +1,2 @@
+-- Messages of other nodes, by the rules.
+pub mod Messages

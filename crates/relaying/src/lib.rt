@@ -1,0 +1,101 @@
+// Messages of other nodes: counted or not, and passed on or not.
+use arrivals::Arrival;
+use arrivals::conclude;
+use arrivals::conclude_by;
+use arrivals::refused;
+use cells::Found;
+use counting::is_duplicate;
+use layout::CAPACITY;
+use layout::NEIGHBOURS_FROM;
+use layout::RECORDS;
+use layout::RECORDS_FROM;
+use layout::ROWS;
+use layout::TIME;
+use layout::WINDOW;
+use neighbours::has_row;
+use originators::count_record;
+use originators::find_record;
+use originators::make_record;
+use record::WIDTH;
+use routing::best::no_route;
+use rules::Received;
+use wire::check::refusal;
+ghost use Rattle.originators.specs.Originators.{Stands, Missing};
+ghost use Rattle.arrivals.specs.Receiving.{after, Leaves, Taken, Ruled, Decides, Counts, foreign};
+
+// The refusals.
+const RECORDS_FULL: u64 = 10;
+
+const LINKS_FULL: u64 = 11;
+
+// A message of an originator without a record, whose place would be i.
+fn first_heard(
+    cells: &mut [u64],
+    packet: &[u8],
+    out: &mut [u8],
+    m: Arrival,
+    i: usize,
+    bidirectional: bool,
+) -> Received
+    requires { ⌜ Decides (now cells) (now packet) (now out) m bidirectional × Missing (now cells) (m .originator) i ⌝ }
+    ensures { λ r. ⌜ Leaves (now (cells .exit)) (now (out .exit)) r (after (now (cells .entry)) (now (packet .entry)) (now (out .entry)) m) ⌝ }
+{
+    if !bidirectional {
+        cells[TIME] = m.time;
+        return conclude(packet, out, m, false, false, no_route());
+    }
+    if cells[CAPACITY] <= cells[RECORDS] {
+        return refused(refusal(RECORDS_FULL));
+    }
+    make_record(cells, i, m.originator, m.link, m.sequence, m.ttl, m.time);
+    cells[TIME] = m.time;
+    conclude_by(cells, packet, out, m, i, true, false)
+}
+
+// A message that is counted in its originator's record, at place i.
+fn count(cells: &mut [u64], packet: &[u8], out: &mut [u8], m: Arrival, i: usize) -> Received
+    requires { ⌜ Taken (now cells) (now packet) (now out) m × Stands (now cells) (m .originator) i × Counts (now cells) (now packet) (now out) m ⌝ }
+    ensures { λ r. ⌜ Leaves (now (cells .exit)) (now (out .exit)) r (after (now (cells .entry)) (now (packet .entry)) (now (out .entry)) m) ⌝ }
+{
+    if !count_record(cells, i, m.link, m.sequence, m.ttl, m.time) {
+        return refused(refusal(LINKS_FULL));
+    }
+    cells[TIME] = m.time;
+    conclude_by(cells, packet, out, m, i, true, false)
+}
+
+// A message of an originator whose record stands at place i.
+fn heard_again(
+    cells: &mut [u64],
+    packet: &[u8],
+    out: &mut [u8],
+    m: Arrival,
+    i: usize,
+    bidirectional: bool,
+) -> Received
+    requires { ⌜ Decides (now cells) (now packet) (now out) m bidirectional × Stands (now cells) (m .originator) i ⌝ }
+    ensures { λ r. ⌜ Leaves (now (cells .exit)) (now (out .exit)) r (after (now (cells .entry)) (now (packet .entry)) (now (out .entry)) m) ⌝ }
+{
+    let at = RECORDS_FROM + i * WIDTH;
+    let end = at + WIDTH;
+    let duplicate = is_duplicate(&cells[at..end], cells[WINDOW], m.link, m.sequence);
+    if bidirectional & !duplicate {
+        return count(cells, packet, out, m, i);
+    }
+    cells[TIME] = m.time;
+    conclude_by(cells, packet, out, m, i, bidirectional, duplicate)
+}
+
+// A message that is neither from nor of this node: whether it is counted, and whether passed on.
+pub fn decide(cells: &mut [u64], packet: &[u8], out: &mut [u8], m: Arrival) -> Received
+    requires { ⌜ Taken (now cells) (now packet) (now out) m × Ruled (now cells) (now packet) (now out) m foreign ⌝ }
+    ensures { λ r. ⌜ Leaves (now (cells .exit)) (now (out .exit)) r (after (now (cells .entry)) (now (packet .entry)) (now (out .entry)) m) ⌝ }
+{
+    let n = cells[ROWS] as usize;
+    let bidirectional = has_row(&cells[NEIGHBOURS_FROM..RECORDS_FROM], n, m.link);
+    let f = find_record(cells, m.originator);
+    match f {
+        Found::At(i) => heard_again(cells, packet, out, m, i, bidirectional),
+        Found::Place(i) => first_heard(cells, packet, out, m, i, bidirectional),
+    }
+}
