@@ -17,6 +17,13 @@ use Rattle.cells.proofs.Lent.{tail-length, tail-back}
 pub paste-turn : (c x s : List ℕ) (at j v : ℕ) → x ≡ paste c at s j → v ≡ getD s j 0 → at + j < length c → j < length s → set x (at + j) v ≡ paste c at s (j + 1)
 paste-turn c x s at j v e ev hc hs = (λ i. set (e i) (at + j) (ev i)) ∙ paste-suc c at s j 0 hc hs ∙ ap (paste c at s) (sym (add-one j))
 
+pub paste-two : (c x s : List ℕ) (at j v u : ℕ) → x ≡ paste c at s j → v ≡ getD s j 0 → u ≡ getD s (j + 1) 0 → at + j + 1 < length c → j + 1 < length s
+    → set (set x (at + j) v) (at + j + 1) u ≡ paste c at s (j + 2)
+paste-two c x s at j v u e ev eu hc hs =
+    let one : at + j + 1 ≡ at + (j + 1) = omega arith in
+    let two : j + 1 + 1 ≡ j + 2 = omega arith in
+    ap (λ (k : ℕ). set (set x (at + j) v) k u) one ∙ paste-turn c (set x (at + j) v) s at (j + 1) u (paste-turn c x s at j v e ev (omega arith) (omega arith)) eu (omega arith) hs ∙ ap (paste c at s) two
+
 pub paste-done : (c s : List ℕ) (at j : ℕ) → j ≡ length s → paste c at s j ≡ written c at s
 paste-done c s at j e = ap (paste c at s) e ∙ ap (λ (l : List ℕ). take at c ++ l ++ drop (at + length s) c) (take-length s)
 
@@ -56,10 +63,11 @@ still c at w h =
     ap (λ (k : ℕ). take at c ++ source c at w ++ drop (at + k) c) (length-source c at w h)
     ∙ ap (λ (l : List ℕ). l ++ drop (at + w) c) (sym (take-add at w c)) ∙ take-append-drop (at + w) c
 
-pub down-cell : (c : List ℕ) (from to w j : ℕ) → to ≤ from → from + w ≤ length c → j < w → getD (paste c to (source c from w) j) (from + j) 0 ≡ getD (source c from w) j 0
-down-cell c from to w j ht hf hj =
-    paste-ahead c (source c from w) to j (from + j) (omega arith) (omega arith) (rw (length-source c from w hf) (omega arith))
-    ∙ sym (getD-take w (drop from c) j 0 hj ∙ getD-drop from c j 0)
+-- a cell that the copy has not reached is still to be moved
+pub down-cell : (c : List ℕ) (from to w j k : ℕ) → to ≤ from → from + w ≤ length c → j ≤ k → k < w → getD (paste c to (source c from w) j) (from + k) 0 ≡ getD (source c from w) k 0
+down-cell c from to w j k ht hf hj hk =
+    paste-ahead c (source c from w) to j (from + k) (omega arith) (omega arith) (rw (length-source c from w hf) (omega arith))
+    ∙ sym (getD-take w (drop from c) k 0 hk ∙ getD-drop from c k 0)
 
 -- ---- moving up: what the cells are once those from k on have come up by w
 

@@ -93,6 +93,7 @@ pub fn write(cells: &mut [u64], at: usize, row: &[u64])
 }
 
 // Moves w cells down, from one place to a lower one; the two may overlap. Where they are one place, nothing is touched.
+// Two cells a turn, both read before either is written, so that the machine can move them as one.
 pub fn move_down(cells: &mut [u64], from: usize, to: usize, w: usize)
     requires { ⌜ (to ≤ from) × (from + w ≤ length (now cells)) ⌝ }
     ensures { λ _. ⌜ now (cells .exit) ≡ written (now (cells .entry)) to (take w (drop from (now (cells .entry)))) ⌝ }
@@ -101,9 +102,15 @@ pub fn move_down(cells: &mut [u64], from: usize, to: usize, w: usize)
         return;
     }
     let mut j = 0;
-    while j < w {
+    while j + 1 < w {
+        let first = cells[from + j];
+        let second = cells[from + j + 1];
+        cells[to + j] = first;
+        cells[to + j + 1] = second;
+        j += 2;
+    }
+    if j < w {
         cells[to + j] = cells[from + j];
-        j += 1;
     }
 }
 
