@@ -27,7 +27,7 @@ moved W d n part = mapValues (shift W d) (pairsOf n part)
 abbrev pub stays : (best : ℕ) → ℕ × ℕ → Bool
 stays b e = hasMark (e .1) || eqb (e .0) b
 
--- a link is this one, or has no higher count than `high`, this one's
+-- a link is this one, or has no higher count than `high`
 abbrev pub yields : Config → (key high : ℕ) → ℕ × ℕ → Bool
 yields κ k high e = eqb (e .0) k || notHigher κ (count (e .1)) high
 

@@ -10,6 +10,7 @@ use window::shift;
 ghost use mathlib.Core.Path.{_≡_};
 ghost use mathlib.Core.List.{_∷_, _++_};
 ghost use Prim.Native.Nat.{_+_, _*_, _≤_, _<_};
+ghost use lib.Dec.{eqb};
 ghost use lib.ListN.{length};
 ghost use Rattle.lists.specs.Lists.{keep};
 ghost use Rattle.cells.specs.Find.{Sorted};
@@ -26,7 +27,7 @@ fn stays(best: u64, key: u64, marks: u64) -> bool
     (0 < marks) | (key == best)
 }
 
-// Whether a link is this one, or has no higher count than this one's.
+// Whether a link is this one, or has no higher count than `high`.
 fn yields(this: u64, high: u32, key: u64, marks: u64) -> bool
     ensures { λ r. ⌜ ((κ : Config) → r ≡ L.yields κ this high (key, marks)) ⌝ }
 {
@@ -64,33 +65,36 @@ fn keep_links(out: &mut [u64], m: usize, part: &[u64], n: usize, w: u64, d: u64,
     k
 }
 
-// Whether no other link has a higher count than this one with these marks, once current has moved up.
-fn is_highest(part: &[u64], n: usize, w: u64, d: u64, key: u64, marks: u64) -> bool
+// The link with the highest count once current has moved up, where this one has these marks: this one if no other has a higher count.
+fn highest(part: &[u64], n: usize, w: u64, d: u64, key: u64, marks: u64) -> u64
     requires { ⌜ (n * linkCells ≤ length (now part)) × (1 ≤ w) × (w ≤ windowMost) ⌝ }
-    ensures { λ r. ⌜ ((κ : Config) → r ≡ isHighest κ key marks (L.moved w d n (now (part .entry)))) ⌝ }
+    ensures { λ r. ⌜ ((κ : Config) → eqb r key ≡ isHighest κ key marks (L.moved w d n (now (part .entry)))) ⌝ }
 {
-    let high = count(marks);
+    let mut top = key;
+    let mut high = count(marks);
     let mut at = 0;
     let mut left = n;
     while 0 < left {
-        if !yields(key, high, part[at], shift(w, d, part[at + 1])) {
-            break;
+        let other = part[at];
+        let moved = shift(w, d, part[at + 1]);
+        if !yields(key, high, other, moved) {
+            top = other;
+            high = count(moved);
         }
         at += LINK;
         left -= 1;
     }
-    left == 0
+    top
 }
 
-// Best once this link has these marks: this link where no other has a higher count; otherwise best stays, even with count 0.
+// Best once this link has these marks: this link where no other has a higher count. Otherwise best stays, even with count 0, and also
+// where it isn't the highest.
 fn choose(part: &[u64], n: usize, w: u64, d: u64, key: u64, marks: u64, best: u64) -> u64
     requires { ⌜ (n * linkCells ≤ length (now part)) × (1 ≤ w) × (w ≤ windowMost) ⌝ }
     ensures { λ r. ⌜ ((κ : Config) → r ≡ L.chosen κ key marks best (L.moved w d n (now (part .entry)))) ⌝ }
 {
-    if is_highest(part, n, w, d, key, marks) {
-        return key;
-    }
-    best
+    let top = highest(part, n, w, d, key, marks);
+    if top == key { key } else { best }
 }
 
 // How many links counting leaves, and the best one's key.
