@@ -5,7 +5,7 @@ use Prim.Native.Nat.{ℕ, zero, suc, _+_, _*_, _-_, _≤_, _<_}
 use native.Mathlib.Nat.{le-of-suc-le-suc, not-suc-le-zero, suc-add, suc-sub-suc, zero-add, suc-mul, sub-zero, zero-sub, zero-mul, mul-le-mul-right}
 use native.Mathlib.Omega.{arith}
 use lib.ListN.{length, take, drop, set, getD, length-append, length-drop}
-use lib.Seq.{take-append-add, drop-append-add, length-take-le, set-split, drop-cons, take-at}
+use lib.Seq.{take-append-add, drop-append-add, length-take-le, set-split, drop-cons, take-at, drop-at}
 use Rattle.lists.proofs.Lists.{map-append}
 use Rattle.cells.specs.Area.{fit, zeros, flat, area, insertAt, removeAt, written, putIn, takenOut}
 
@@ -108,6 +108,30 @@ module _ {A : Type 0} (f : A → List ℕ) (w : ℕ) (wide : (a : A) → length 
 
   pub length-area : (n : ℕ) (l : List A) → length (area f w n l) ≡ n * w
   length-area n l = length-fit (n * w) (flat (map f l))
+
+  -- the same rows in an area with more room: the further cells are zero
+  module _ (m n : ℕ) (l : List A) (few : length l ≤ m) (more : m ≤ n) where
+    area-more : area f w n l ≡ area f w m l ++ zeros (n * w - m * w)
+    area-more =
+        let b : List ℕ = flat (map f l) in
+        let x : length l * w ≤ m * w = mul-le-mul-right w few in
+        let y : m * w ≤ n * w = mul-le-mul-right w more in
+        let e : length b ≡ length l * w = length-rows l in
+        let z : m * w - length b + (n * w - m * w) ≡ n * w - length b = omega arith in
+        fit-zeros (n * w) (n * w - length b) b (omega arith)
+        ∙ ap (λ (t : List ℕ). b ++ t) (sym (zeros-append (m * w - length b) (n * w - m * w) ∙ ap zeros z))
+        ∙ sym (append-assoc b (zeros (m * w - length b)) (zeros (n * w - m * w)))
+        ∙ ap (λ (t : List ℕ). t ++ zeros (n * w - m * w)) (sym (fit-zeros (m * w) (m * w - length b) b (omega arith)))
+
+    pub take-more : take (m * w) (area f w n l) ≡ area f w m l
+    take-more = ap (take (m * w)) area-more ∙ take-at (area f w m l) (zeros (n * w - m * w)) (m * w) (length-area m l)
+
+    drop-more : drop (m * w) (area f w n l) ≡ zeros (n * w - m * w)
+    drop-more = ap (drop (m * w)) area-more ∙ drop-at (area f w m l) (zeros (n * w - m * w)) (m * w) (length-area m l)
+
+  -- other rows in the part for m rows, where no further one is held before or after
+  pub more-back : (m n : ℕ) (l k : List A) → length l ≤ m → length k ≤ m → m ≤ n → area f w m k ++ drop (m * w) (area f w n l) ≡ area f w n k
+  more-back m n l k h j more = ap (λ (t : List ℕ). area f w m k ++ t) (drop-more m n l h more) ∙ sym (area-more m n k j more)
 
   -- the rows before a place, and those from it on
   module _ (n : ℕ) (l : List A) (room : length l ≤ n) where

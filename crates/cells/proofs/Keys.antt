@@ -1,15 +1,16 @@
 -- A turn of the loops that read cells, as equations of tests, and keys that rise as the rules say it. Assumes nothing.
 use mathlib.Core.Path.{_≡_, refl, sym, ap, _∙_}
 use mathlib.Core.List.{List, [], _∷_, map}
-use mathlib.Core.Bool.{Bool, true, false, _&&_}
+use mathlib.Core.Bool.{Bool, true, false, _&&_, and-assoc}
 use Prim.Native.Nat.{ℕ, zero, suc, _+_, _*_, _-_, _≤_, _<_, zero-le}
 use native.Mathlib.Nat.{suc-mul, add-zero, zero-mul, not-suc-le-zero, le-of-suc-le-suc}
 use native.Mathlib.Omega.{arith}
 use native.Mathlib.Numerals.{add-one}
+use lib.Bits.{bitOr, or-zero-l, or-add-and, and-le-r}
 use lib.Dec.{leb, ltb, eqb}
 use lib.ListN.{length, take, drop, getD}
 use lib.Seq.{drop-cons, getD-drop, getD-take, drop-drop, drop-length}
-use borrow.Author.Tests.{le-leb, lt-leb, leb-true}
+use borrow.Author.Tests.{le-leb, lt-leb, leb-true, ne-eqb}
 use Rattle.lists.specs.Lists.{all}
 use Rattle.lists.specs.Keyed.{rising}
 use Rattle.cells.specs.Area.{allZero, keyOf, rowsOf, column, riseFrom, rise, scan}
@@ -17,9 +18,18 @@ use Rattle.cells.proofs.Trips.{length-decoded}
 
 -- ---- zeros
 
-pub zero-next : (c : List ℕ) (i : ℕ) → i < length c → (b : Bool) → (b && allZero (drop i c)) ≡ (b && eqb (getD c i 0) 0 && allZero (drop (i + 1) c))
-zero-next c i h true = rw (add-one i, drop-cons c i 0 h)
-zero-next c i h false = refl
+-- two words have no bit together exactly if neither has one
+no-bit : (a b : ℕ) → eqb (bitOr a b) 0 ≡ (eqb a 0 && eqb b 0)
+no-bit zero b = rw (or-zero-l b)
+no-bit (suc a) b =
+    ne-eqb (bitOr (suc a) b) 0 (omega (arith, or-add-and (suc a) b, and-le-r (suc a) b)) ∙ sym (ap (λ (t : Bool). t && eqb b 0) (ne-eqb (suc a) 0 (omega arith)))
+
+-- the bits v of the cells before place i, joined with those of the cell there
+pub zero-next : (c : List ℕ) (i : ℕ) → i < length c → (v : ℕ) → (eqb v 0 && allZero (drop i c)) ≡ (eqb (bitOr v (getD c i 0)) 0 && allZero (drop (i + 1) c))
+zero-next c i h v =
+    ap (λ (l : List ℕ). eqb v 0 && allZero l) (drop-cons c i 0 h ∙ ap (λ (n : ℕ). getD c i 0 ∷ drop n c) (sym (add-one i)))
+    ∙ sym (and-assoc (eqb v 0) (eqb (getD c i 0) 0) (allZero (drop (i + 1) c)))
+    ∙ ap (λ (b : Bool). b && allZero (drop (i + 1) c)) (sym (no-bit v (getD c i 0)))
 
 pub zero-end : (c : List ℕ) (i : ℕ) → i ≡ length c → allZero (drop i c) ≡ true
 zero-end c i e = ap (λ (k : ℕ). allZero (drop k c)) e ∙ rw (drop-length c)

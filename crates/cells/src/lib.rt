@@ -56,17 +56,18 @@ pub fn keys_rise(cells: &[u64], w: usize, n: usize) -> bool
     left == 0
 }
 
-// Whether every cell is zero. No early exit: unused cells nearly always are, and the loop is then done several cells at a time.
+// Whether every cell is zero. The bits of all are joined, with no early exit: unused cells nearly always are zero, and the loop is then done several
+// cells at a time.
 pub fn all_zero(cells: &[u64]) -> bool
     ensures { λ r. ⌜ r ≡ allZero (now (cells .entry)) ⌝ }
 {
-    let mut zero = true;
+    let mut bits: u64 = 0;
     let mut i = 0;
     while i < cells.len() {
-        zero = zero & (cells[i] == 0);
+        bits = bits | cells[i];
         i += 1;
     }
-    zero
+    bits == 0
 }
 
 // Fills the cells with zeros.

@@ -1,27 +1,29 @@
 -- The check of a record is document 01's tests of it. Assumes nothing.
 use mathlib.Core.Path.{_≡_, refl, sym, ap, _∙_}
 use mathlib.Core.List.{List, _∷_, map}
-use mathlib.Core.Bool.{Bool, true, false, cond, _&&_, _||_, not, and-true, or-assoc, or-false}
+use mathlib.Core.Bool.{Bool, true, false, cond, _&&_, _||_, not, and-true, and-assoc, or-assoc, or-false}
 use mathlib.Core.Option.{some}
-use Prim.Native.Nat.{ℕ, _+_, _-_, _/_, _%_, _^_, _≤_, _<_}
+use Prim.Native.Nat.{ℕ, zero, suc, _+_, _-_, _/_, _%_, _^_, _≤_, _<_}
 use native.Mathlib.Omega.{arith}
 use lib.Dec.{leb, ltb, eqb}
 use lib.ListN.{length, take, drop, getD}
-use borrow.Author.Tests.{lt-ltb, le-ltb, ltb-true, ltb-false}
+use lib.Pow.{pow-pos}
+use borrow.Author.Tests.{lt-ltb, le-ltb, ltb-true, ltb-false, ne-eqb}
 use Rattle.lists.specs.Lists.{and, all, maybe}
 use Rattle.lists.specs.Keyed.{lookup, hasKey, rising}
 use Rattle.cells.specs.Area.{allZero, rowsOf, scan}
 use Rattle.cells.specs.Pairs.{pairOf, pairsOf}
-use Rattle.lists.proofs.Tests.{and-right, and-at}
+use Rattle.lists.proofs.Tests.{and-left, and-right, and-at}
 use Rattle.lists.proofs.Lists.{all-map}
 use Rattle.cells.proofs.Keys.{rows-one, rows-none, scan-next, scan-stop, scan-end, scan-is}
 use Rattle.cells.proofs.Pairs.{pair-at, length-pairs}
+use Rattle.window.specs.Window.{hasMark}
 use Rattle.rules.specs.Settings.{Config, linkMost, linkCells, recordHeadCells, within, isAddress, isNumber, isOctet, isOwn}
 use Rattle.rules.specs.Calls.{neighbourOf, interfaceOf}
 use Rattle.rules.specs.WellFormed.{linkTests}
 use Rattle.record.specs.declared.Limits.{Limits}
 use Rattle.record.specs.Record.{linksAt, bestAt, addressAt, linksOf, decodeRecord, unusedLinks, recordOk}
-use Rattle.record.specs.Limits.{Describes, fieldsOk, linksOk}
+use Rattle.record.specs.Limits.{Describes, fieldsOk, marksOk, linksOk}
 
 pub or-end : (a b c d : Bool) → a || (b || (c || d)) ≡ a || (b || (c || (d || false)))
 or-end true b c d = refl
@@ -41,12 +43,30 @@ small-pair k = go (ltb k 17179869184) refl
     go true e = let h = ltb-true k 17179869184 e in sym (lt-ltb (k / 4) 4294967296 (omega arith))
     go false e = let h = ltb-false k 17179869184 e in sym (le-ltb (k / 4) 4294967296 (omega arith))
 
-pub link-tests : (κ : Config) (now : ℕ) (l : Limits) → Describes κ now l → (low pair marks best : ℕ) (fit : Bool) → fit ≡ ltb marks (2 ^ l .window)
-    → leb low pair && (ltb pair 17179869184 && (ltb (pair % 4) (l .used) && (fit && (ltb 0 marks || eqb pair best)))) ≡ leb low pair && and (linkTests κ best (pair, marks))
+-- marks that are not both some and inside the window
+pub marks-tests : (W marks best pair : ℕ) (fit : Bool) → fit ≡ ltb marks (2 ^ W) → ltb 0 marks && fit ≡ false
+    → eqb marks 0 && eqb pair best ≡ marksOk W best pair marks
+marks-tests W zero best pair fit e h = sym (ap (λ (b : Bool). b && eqb pair best) (lt-ltb 0 (2 ^ W) (pow-pos W)))
+marks-tests W (suc m) best pair fit e h =
+    let some : ltb 0 (suc m) ≡ true = lt-ltb 0 (suc m) (omega arith) in
+    ap (λ (b : Bool). b && eqb pair best) (ne-eqb (suc m) 0 (omega arith))
+    ∙ sym (ap (λ (b : Bool). b && (hasMark (suc m) || eqb pair best)) (sym e ∙ sym (ap (λ (b : Bool). b && fit) some) ∙ h))
+
+-- the pair by itself, and then the marks
+abbrev pub pairOk : Limits → (low pair : ℕ) → Bool
+pairOk l low pair = leb low pair && (ltb pair 17179869184 && ltb (pair % 4) (l .used))
+
+pub pair-small : (l : Limits) (low pair : ℕ) → pairOk l low pair ≡ true → pair < 17179869184
+pair-small l low pair h = ltb-true pair 17179869184 (and-left (ltb pair 17179869184) (ltb (pair % 4) (l .used)) (and-right (leb low pair) _ h))
+
+pub link-tests : (κ : Config) (now : ℕ) (l : Limits) → Describes κ now l → (low pair marks best : ℕ)
+    → pairOk l low pair && marksOk (l .window) best pair marks ≡ leb low pair && and (linkTests κ best (pair, marks))
 unfolding interfaceOf
-link-tests κ now l d low pair marks best fit e =
-    let f : fit ≡ ltb marks (2 ^ κ .settings .window) = e ∙ ap (λ (w : ℕ). ltb marks (2 ^ w)) (d .window) in
-    λ i. leb low pair && (small-pair pair i && (ltb (pair % 4) (d .used i) && (f i && sym (and-true (ltb 0 marks || eqb pair best)) i)))
+link-tests κ now l d low pair marks best =
+    let fit = marksOk (l .window) best pair marks in
+    and-assoc (leb low pair) (ltb pair 17179869184 && ltb (pair % 4) (l .used)) fit
+    ∙ ap (λ (b : Bool). leb low pair && b) (and-assoc (ltb pair 17179869184) (ltb (pair % 4) (l .used)) fit)
+    ∙ (λ i. leb low pair && (small-pair pair i && (ltb (pair % 4) (d .used i) && (ltb marks (2 ^ d .window i) && sym (and-true (hasMark marks || eqb pair best)) i))))
 
 -- ---- the links
 

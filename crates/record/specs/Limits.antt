@@ -1,12 +1,13 @@
 -- What a record's cells are held to, as the check carries it along.
 use mathlib.Core.Path.{_≡_}
 use mathlib.Core.List.{List, [], _∷_}
-use mathlib.Core.Bool.{Bool, true, _&&_, not}
-use Prim.Native.Nat.{ℕ, _≤_, _<_}
-use lib.Dec.{leb}
+use mathlib.Core.Bool.{Bool, true, _&&_, _||_, not}
+use Prim.Native.Nat.{ℕ, _^_, _≤_, _<_}
+use lib.Dec.{leb, ltb, eqb}
 use lib.ListN.{length, getD}
 use Rattle.lists.specs.Lists.{and, all, elem}
 use Rattle.lists.specs.Keyed.{rising, hasKey}
+use Rattle.window.specs.Window.{hasMark}
 use Rattle.rules.specs.Settings.{Config, linkMost, windowMost, within, isOctet, isAddress, isNumber, isOwn}
 use Rattle.rules.specs.WellFormed.{linkTests}
 use Rattle.record.specs.declared.Limits.{Limits}
@@ -34,6 +35,10 @@ fieldsOk κ now low row =
     && (isAddress (getD row addressAt 0)
     && (not (isOwn κ (getD row addressAt 0))
     && (isNumber (getD row currentAt 0) && (leb (getD row timeAt 0) now && (isOctet (getD row lastTtlAt 0) && within 1 linkMost (getD row linksAt 0))))))
+
+-- marks that a link may have: none outside the window, and one at least unless it is best
+abbrev pub marksOk : (W best pair marks : ℕ) → Bool
+marksOk W best pair marks = ltb marks (2 ^ W) && (hasMark marks || eqb pair best)
 
 -- links that may be held: each by itself, rising by the pair, best among them
 abbrev pub linksOk : Config → (best : ℕ) → List (ℕ × ℕ) → Bool

@@ -12,11 +12,11 @@ ghost use lib.ListN.{length};
 ghost use Rattle.lists.specs.Lists.{elem};
 ghost use Rattle.cells.specs.Pairs.{pairsOf};
 ghost use Rattle.cells.specs.Find.{Sorted};
-ghost use Rattle.rules.specs.Settings.{Config, linkCells, recordCells};
+ghost use Rattle.rules.specs.Settings.{Config, windowMost, linkCells, recordCells};
 ghost use Rattle.rules.specs.Rules.{routeOf};
 ghost use Rattle.rules.specs.Table.{table, marksAt};
 ghost use Rattle.record.specs.Record.{decodeRecord, Held};
-ghost use Rattle.record.specs.Limits.{Describes, Windowed, ownOf, linksOk, FieldsChecked, LinkChecked, RecordChecked};
+ghost use Rattle.record.specs.Limits.{Describes, Windowed, ownOf, marksOk, linksOk, FieldsChecked, LinkChecked, RecordChecked};
 
 // The places of a record's fields.
 pub const ADDRESS: usize = 0;
@@ -69,15 +69,26 @@ fn is_own(limits: Limits, a: u64) -> bool
     (a == limits.own_0) | ((a == limits.own_1) | ((a == limits.own_2) | (a == limits.own_3)))
 }
 
+// Whether a link may have these marks: none outside the window, and one at least unless it is best. The first test is nearly always met.
+fn marks_ok(window: u64, best: u64, pair: u64, marks: u64) -> bool
+    requires { ⌜ (1 ≤ window) × (window ≤ windowMost) ⌝ }
+    ensures { λ r. ⌜ r ≡ marksOk window best pair marks ⌝ }
+{
+    if (0 < marks) & fits(window, marks) {
+        return true;
+    }
+    (marks == 0) & (pair == best)
+}
+
 // Whether a link may be held, where pairs below `low` are passed.
 fn link_ok(limits: Limits, best: u64, low: u64, pair: u64, marks: u64) -> bool
     requires { ⌜ Windowed limits ⌝ }
     ensures { λ r. ⌜ LinkChecked limits best low pair marks r ⌝ }
 {
-    (low <= pair)
-        & ((pair < PAIRS)
-            & ((pair % INTERFACES < limits.used)
-                & (fits(limits.window, marks) & ((0 < marks) | (pair == best)))))
+    if !((low <= pair) & ((pair < PAIRS) & (pair % INTERFACES < limits.used))) {
+        return false;
+    }
+    marks_ok(limits.window, best, pair, marks)
 }
 
 // Whether the links may be held: each by itself, rising by the pair, best among them.

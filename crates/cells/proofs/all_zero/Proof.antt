@@ -3,6 +3,7 @@ use mathlib.Core.Path.{_≡_, refl, sym, ap, _∙_}
 use mathlib.Core.Bool.{Bool, _&&_, and-true}
 use Prim.Native.Nat.{_-_, _≤_}
 use native.Mathlib.Omega.{arith}
+use lib.Dec.{eqb}
 use lib.ListN.{length, drop}
 use Rattle.cells.specs.Area.{allZero}
 use Rattle.cells.proofs.Keys.{zero-next, zero-end}
@@ -10,10 +11,10 @@ use Rattle.cells.proofs.all_zero.Statement.{statement}
 use Rattle.cells.proofs.all_zero.Tie as tie
 
 abbrev Inv-loop : tie.InvT-loop
-Inv-loop cells zero₀ i₀ zero i = (i ≤ length cells) × ((zero && allZero (drop i cells)) ≡ allZero cells)
+Inv-loop cells bits₀ i₀ bits i = (i ≤ length cells) × ((eqb bits 0 && allZero (drop i cells)) ≡ allZero cells)
 
 abbrev μ-loop : tie.MeasureT-loop
-μ-loop cells zero₀ i₀ zero i = length cells - i
+μ-loop cells bits₀ i₀ bits i = length cells - i
 
 loop-holds : tie.Need-loop-holds Inv-loop μ-loop
 loop-holds c = (omega arith, refl)
@@ -21,13 +22,13 @@ loop-holds c = (omega arith, refl)
 loop-again : tie.Need-loop-again Inv-loop μ-loop
 loop-again c =
     let l = c .before .before in
-    (search needs, sym (zero-next (l .before .args .cells .now) (l .loop .i) (search needs) (l .loop .zero)) ∙ l .loop .inv .1)
+    (search needs, sym (zero-next (l .before .args .cells .now) (l .loop .i) (search needs) (l .loop .bits)) ∙ l .loop .inv .1)
 
 returns : tie.Need-returns Inv-loop μ-loop
 returns c =
     let l = c .before .loop in
     let xs = c .before .before .args .cells .now in
-    sym (and-true (l .zero)) ∙ ap (λ (b : Bool). l .zero && b) (sym (zero-end xs (l .i) (omega arith))) ∙ l .inv .1
+    sym (and-true (eqb (l .bits) 0)) ∙ ap (λ (b : Bool). eqb (l .bits) 0 && b) (sym (zero-end xs (l .i) (omega arith))) ∙ l .inv .1
 
 pub all-zero-spec : {M : Type 1} → statement M
 all-zero-spec = tie.close (tie.spec Inv-loop μ-loop loop-holds (λ c. search needs) (λ c. search needs) (λ c. search needs) (λ c. search needs) loop-again returns)

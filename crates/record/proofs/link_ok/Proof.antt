@@ -1,18 +1,29 @@
 use borrow.Author.Needs.{needs}
-use lib.Dec.{leb, ltb}
-use borrow.Author.Tests.{ltb-true}
-use Rattle.lists.proofs.Tests.{and-left, and-right}
-use Rattle.record.proofs.Checks.{link-tests}
+use mathlib.Core.Path.{sym, ap, _∙_}
+use mathlib.Core.Bool.{Bool, _&&_}
+use borrow.Author.Tests.{not-true, not-false}
+use Rattle.record.specs.Limits.{marksOk}
+use Rattle.record.proofs.Checks.{pair-small, link-tests}
 use Rattle.record.proofs.link_ok.Statement.{statement}
 use Rattle.record.proofs.link_ok.Tie as tie
 
 returns : tie.Need-returns
 returns c =
     let a = c .before .before .args in
+    let t = not-true _ (c .if1 .taken) in
     record {
-      small = λ h. ltb-true (a .pair) 17179869184 (and-left (ltb (a .pair) 17179869184) _ (and-right (leb (a .low) (a .pair)) _ h));
-      tests = λ κ now d. link-tests κ now (a .limits) d (a .low) (a .pair) (a .marks) (a .best) (c .fits2 .result) (c .fits2 .ensures);
+      small = λ h. pair-small (a .limits) (a .low) (a .pair) (t ∙ h);
+      tests = λ κ now d. sym (ap (λ (b : Bool). b && marksOk (a .limits .window) (a .best) (a .pair) (a .marks)) t) ∙ link-tests κ now (a .limits) d (a .low) (a .pair) (a .marks) (a .best);
+    }
+
+returns-2 : tie.Need-returns-2
+returns-2 c =
+    let a = c .before .before .before .args in
+    let t = not-false _ (c .before .if1 .left) in
+    record {
+      small = λ h. pair-small (a .limits) (a .low) (a .pair) t;
+      tests = λ κ now d. c .marks-ok .ensures ∙ sym (ap (λ (b : Bool). b && marksOk (a .limits .window) (a .best) (a .pair) (a .marks)) t) ∙ link-tests κ now (a .limits) d (a .low) (a .pair) (a .marks) (a .best);
     }
 
 pub link-ok-spec : {M : Type 1} → statement M
-link-ok-spec = tie.close (tie.spec (λ c κs. search needs) returns)
+link-ok-spec = tie.close (tie.spec returns (λ c κs. search needs) returns-2)
