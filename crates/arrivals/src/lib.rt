@@ -1,10 +1,9 @@
 // A received message, and how its packet ends: refused, or with a verdict and the route of its originator.
 use counting::is_best;
 use counting::is_last_ttl;
-use layout::RECORDS_FROM;
 use layout::TIME;
 use layout::WINDOW;
-use record::WIDTH;
+use originators::record_at;
 use record::route_of;
 use routing::best::no_route;
 use routing::best::route_to;
@@ -126,9 +125,7 @@ pub fn conclude_by(
     requires { ⌜ Fits (now packet) (now out) m × Stands (now cells) (m .originator) i ⌝ }
     ensures { λ r. ⌜ Replies (now (out .exit)) r (concluded (decode (now (cells .entry))) (callOf (now (packet .entry)) (now (out .entry)) m) (header (now (packet .entry))) bidirectional duplicate) ⌝ }
 {
-    let at = RECORDS_FROM + i * WIDTH;
-    let end = at + WIDTH;
-    let row = &cells[at..end];
+    let row = record_at(cells, i);
     let best = bidirectional
         & (is_best(row, m.link) & (!duplicate | is_last_ttl(row, m.ttl as u64)));
     let route = route_of(row, cells[WINDOW] as u32);

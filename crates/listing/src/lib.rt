@@ -1,14 +1,13 @@
 // The list call: the rows of an originator's links are looked up, then written to the caller's.
 use cells::Found;
-use layout::RECORDS_FROM;
 use layout::WINDOW;
 use originators::find_record;
+use originators::record_at;
 use record::BEST;
 use record::FIELDS;
 use record::INTERFACES;
 use record::LINK;
 use record::LINKS;
-use record::WIDTH;
 use rules::LinkRow;
 use table::well_formed;
 use window::count;
@@ -105,11 +104,7 @@ fn held_links(cells: &[u64], originator: u32) -> Links
 {
     let f = find_record(cells, originator);
     match f {
-        Found::At(i) => {
-            let at = RECORDS_FROM + i * WIDTH;
-            let end = at + WIDTH;
-            rows_of(&cells[at..end], cells[WINDOW] as u32)
-        }
+        Found::At(i) => rows_of(record_at(cells, i), cells[WINDOW] as u32),
         Found::Place(_) => no_links(0),
     }
 }

@@ -12,8 +12,8 @@ use Rattle.lists.specs.Keyed.{put}
 use Rattle.cells.specs.Area.{putIn, written, insertAt}
 use Rattle.cells.specs.Pairs.{pairRow, pairCells, pairArea}
 use Rattle.cells.specs.Find.{IsAt}
-use Rattle.cells.proofs.Areas.{length-area, write-row, put-row}
-use Rattle.cells.proofs.Lent.{part-is, tail-is, tail-length}
+use Rattle.cells.proofs.Areas.{length-area, take-more, more-back, write-row, put-row}
+use Rattle.cells.proofs.Lent.{part-is, part-length, tail-back}
 use Rattle.cells.proofs.Pairs.{pair-wide}
 use Rattle.cells.proofs.Trips.{length-decoded}
 use Rattle.cells.proofs.Search.{belowKey, aboveKey, Among, among, apart, put-among, put-apart}
@@ -28,7 +28,7 @@ use Rattle.layout.specs.Cells.{headOf, interfaceArea, recordArea, encode, decod
 use Rattle.layout.specs.Facts.{recordAt}
 use Rattle.lists.proofs.Rising.{rising-out}
 use Rattle.changes.specs.Changes.{withRecords}
-use Rattle.changes.proofs.Parts.{interface-wide, records-lent, records-back}
+use Rattle.changes.proofs.Parts.{interface-wide, encoded-size, records-lent, records-back}
 use Rattle.changes.proofs.Sent.{run-back}
 use Rattle.rules.proofs.WellFormed.{Wf, parts}
 use Rattle.counting.specs.Counting.{Counted}
@@ -40,6 +40,10 @@ Entry = ℕ × TableRecord
 pub records-count : (c : List ℕ) → length (decode c .records) ≡ getD c recordsAt 0
 unfolding decode
 records-count c = length-decoded decodeRecord recordCells (getD c recordsAt 0) (recordPart c)
+
+capacity-is : (c : List ℕ) → decode c .config .settings .capacity ≡ getD c capacityAt 0
+unfolding decode
+capacity-is c = refl
 
 length-insert : (i : ℕ) (e : Entry) (l : List Entry) → i ≤ length l → length (insertAt i e l) ≡ length l + 1
 length-insert i e l h = omega (arith, length-append (take i l) (e ∷ drop i l), length-take-le i l h, length-drop i l)
@@ -90,17 +94,25 @@ module _ (s : TableState) (few : length (s .records) ≤ s .config .settings .ca
       ∙ ap (λ (k : ℕ). front k ++ (area (set (s .records) i e) ++ [])) (sym (length-set (s .records) i e))
       ∙ sym (fronted (set (s .records) i e))
 
-  -- put in
-  row-in : i ≤ length (s .records) → (n : ℕ) → n ≡ length (encode s) - recordsFrom
-      → set (putMid recordsFrom n (encode s) (putIn (drop recordsFrom (encode s)) (i * recordCells) (encodeRecord e))) recordsAt (length (s .records) + 1) ≡ encode (withRecords (insertAt i e (s .records)) s)
-  row-in h n en =
+  -- put in, where the cells of n records are lent, room for one more among them
+  row-in : i ≤ length (s .records) → (n : ℕ) → n ≡ length (s .records) + 1 → n ≤ s .config .settings .capacity
+      → set (putMid recordsFrom (n * recordCells) (encode s) (putIn (take (n * recordCells) (drop recordsFrom (encode s))) (i * recordCells) (encodeRecord e))) recordsAt n
+      ≡ encode (withRecords (insertAt i e (s .records)) s)
+  row-in h n en room =
       let es = insertAt i e (s .records) in
-      let y : putIn (drop recordsFrom (encode s)) (i * recordCells) (encodeRecord e) ≡ area es =
-      ap (λ (l : List ℕ). putIn l (i * recordCells) (encodeRecord e)) (records-lent s)
-      ∙ put-row encodeRecord recordCells length-record (s .config .settings .capacity) (s .records) few i e h in
-      ap (λ (l : List ℕ). set (putMid recordsFrom n (encode s) l) recordsAt (length (s .records) + 1)) y
-      ∙ ap (set (putMid recordsFrom n (encode s) (area es)) recordsAt) (sym (length-insert i e (s .records) h))
-      ∙ records-back s es n en
+      let ln : length es ≡ n = length-insert i e (s .records) h ∙ sym en in
+      let lent : take (n * recordCells) (drop recordsFrom (encode s)) ≡ recordArea n (s .records) =
+      ap (take (n * recordCells)) (records-lent s) ∙ take-more encodeRecord recordCells length-record n (s .config .settings .capacity) (s .records) (omega arith) room in
+      let y : putIn (take (n * recordCells) (drop recordsFrom (encode s))) (i * recordCells) (encodeRecord e) ≡ recordArea n es =
+      ap (λ (l : List ℕ). putIn l (i * recordCells) (encodeRecord e)) lent ∙ put-row encodeRecord recordCells length-record n (s .records) (omega arith) i e h in
+      let back : putMid recordsFrom (n * recordCells) (encode s) (recordArea n es) ≡ putMid recordsFrom (length (encode s) - recordsFrom) (encode s) (area es) =
+      ap (λ (l : List ℕ). take recordsFrom (encode s) ++ (recordArea n es ++ drop (n * recordCells) l)) (records-lent s)
+      ∙ ap (λ (l : List ℕ). take recordsFrom (encode s) ++ l) (more-back encodeRecord recordCells length-record n (s .config .settings .capacity) (s .records) es (omega arith) (omega arith) room)
+      ∙ sym (tail-back (encode s) recordsFrom (area es) (encoded-size s)) in
+      ap (λ (l : List ℕ). set (putMid recordsFrom (n * recordCells) (encode s) l) recordsAt n) y
+      ∙ ap (λ (l : List ℕ). set l recordsAt n) back
+      ∙ ap (set (putMid recordsFrom (length (encode s) - recordsFrom) (encode s) (area es)) recordsAt) (sym ln)
+      ∙ records-back s es (length (encode s) - recordsFrom) refl
 
 -- ---- the record of an originator, in a well-formed table's cells
 
@@ -158,19 +170,28 @@ module _ (c : List ℕ) (o i : ℕ) where
     place-within : i ≤ length records
     place-within = omega (arith, s .place .within, length-map records (λ (e : Entry). e .0))
 
-    -- there is room for its cells
-    pub place-fits : getD c recordsAt 0 < getD c capacityAt 0 → i * recordCells + recordCells ≤ length (take (length c - recordsFrom) (drop recordsFrom c))
-    place-fits h = omega (arith, place-within, records-count c, s .knows .sized .size, tail-length c recordsFrom)
+    -- the cells of the records with room for one more
+    abbrev more : ℕ
+    more = (getD c recordsAt 0 + 1) * recordCells
 
-    pub record-in : (x : TableRecord) (y z : List ℕ) → y ≡ encodeRecord (o, x) → z ≡ putIn (take (length c - recordsFrom) (drop recordsFrom c)) (i * recordCells) y
-        → set (putMid recordsFrom (length c - recordsFrom) c z) recordsAt (getD c recordsAt 0 + 1) ≡ encode (with x)
-    record-in x y z ey ez =
-        let n = length c - recordsFrom in
-        let e : z ≡ putIn (drop recordsFrom c) (i * recordCells) (encodeRecord (o, x)) = ez ∙ (λ j. putIn (tail-is c recordsFrom j) (i * recordCells) (ey j)) in
-        (λ j. set (putMid recordsFrom n c (e j)) recordsAt (sym (records-count c) j + 1))
-        ∙ ap (λ (l : List ℕ). set (putMid recordsFrom n l (putIn (drop recordsFrom l) (i * recordCells) (encodeRecord (o, x)))) recordsAt (length records + 1)) (sym (s .knows .cells))
-        ∙ row-in (decode c) (parts (decode c) (s .knows .valid) .records .most) i (o, x) place-within n (ap (λ (l : List ℕ). length l - recordsFrom) (sym (s .knows .cells)))
-        ∙ ap (λ (es : List Entry). encode (withRecords es (decode c))) (sym (put-apart o i x records (apart o i records (s .place))))
+    module _ (h : getD c recordsAt 0 < getD c capacityAt 0) where
+      pub more-fits : recordsFrom + more ≤ length c
+      more-fits = omega (arith, s .knows .sized .size)
+
+      -- there is room for its cells
+      pub place-fits : i * recordCells + recordCells ≤ length (take (recordsFrom + more - recordsFrom) (drop recordsFrom c))
+      place-fits = omega (arith, place-within, records-count c, part-length c recordsFrom more more-fits)
+
+      pub record-in : (x : TableRecord) (y z : List ℕ) → y ≡ encodeRecord (o, x) → z ≡ putIn (take (recordsFrom + more - recordsFrom) (drop recordsFrom c)) (i * recordCells) y
+          → set (putMid recordsFrom (recordsFrom + more - recordsFrom) c z) recordsAt (getD c recordsAt 0 + 1) ≡ encode (with x)
+      record-in x y z ey ez =
+          let n = getD c recordsAt 0 + 1 in
+          let k : recordsFrom + more - recordsFrom ≡ n * recordCells = omega arith in
+          let room : n ≤ decode c .config .settings .capacity = omega (arith, capacity-is c) in
+          ap (λ (l : List ℕ). set (putMid recordsFrom (recordsFrom + more - recordsFrom) c l) recordsAt n) (ez ∙ ap (putIn (take (recordsFrom + more - recordsFrom) (drop recordsFrom c)) (i * recordCells)) ey)
+          ∙ (λ j. set (putMid recordsFrom (k j) (sym (s .knows .cells) j) (putIn (take (k j) (drop recordsFrom (sym (s .knows .cells) j))) (i * recordCells) (encodeRecord (o, x)))) recordsAt n)
+          ∙ row-in (decode c) (parts (decode c) (s .knows .valid) .records .most) i (o, x) place-within n (ap (λ (m : ℕ). m + 1) (sym (records-count c))) room
+          ∙ ap (λ (es : List Entry). encode (withRecords es (decode c))) (sym (put-apart o i x records (apart o i records (s .place))))
 
     pub in-at : (x : TableRecord) → IsAt (heldBy (with x)) o i
     in-at x = put-at o i x records (apart o i records (s .place) .below) place-within

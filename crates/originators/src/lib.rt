@@ -15,7 +15,7 @@ ghost use Rattle.lists.specs.Keyed.{put};
 ghost use Rattle.rules.specs.Table.{firstRecord};
 ghost use Rattle.layout.specs.Layout.{capacityAt, recordsAt};
 ghost use Rattle.layout.specs.Cells.{encode, decode};
-ghost use Rattle.layout.specs.Facts.{Knows};
+ghost use Rattle.layout.specs.Facts.{Knows, recordAt};
 ghost use Rattle.counting.specs.Counting.{ogm};
 ghost use Rattle.changes.specs.Changes.{withRecords};
 ghost use Rattle.originators.specs.Originators.{Holds, Stands, Missing, RecordFound, CountedIn};
@@ -31,6 +31,16 @@ pub fn find_record(cells: &[u64], originator: u32) -> Found
         cells[RECORDS] as usize,
         originator as u64,
     )
+}
+
+// The cells of the record at place i.
+pub fn record_at(cells: &[u64], i: usize) -> &[u64]
+    requires { ⌜ Holds (now cells) i ⌝ }
+    ensures { λ r. ⌜ now r ≡ recordAt (now (cells .entry)) i ⌝ }
+{
+    let at = RECORDS_FROM + i * WIDTH;
+    let end = at + WIDTH;
+    &cells[at..end]
 }
 
 // Counts a message in the record at place i. False, and nothing changes, where more than 8 links would have marks or be best.
@@ -51,7 +61,7 @@ pub fn count_record(
     count_message(&mut cells[at..end], w, link, sequence, ttl as u64, time)
 }
 
-// Puts the record that an originator's first counted message makes in at its place i.
+// Puts the record that an originator's first counted message makes in at its place i. Only records that are held move.
 pub fn make_record(
     cells: &mut [u64],
     i: usize,
@@ -65,6 +75,7 @@ pub fn make_record(
     ensures { λ _. ⌜ now (cells .exit) ≡ encode (withRecords (put originator (firstRecord (decode (now (cells .entry)) .config) (ogm link sequence ttl time)) (decode (now (cells .entry)) .records)) (decode (now (cells .entry)))) ⌝ }
 {
     let n = cells[RECORDS];
+    let end = RECORDS_FROM + (n as usize + 1) * WIDTH;
     let mut row = [0u64; WIDTH];
     first_record(
         &mut row,
@@ -74,6 +85,6 @@ pub fn make_record(
         ttl as u64,
         time,
     );
-    put_in(&mut cells[RECORDS_FROM..], i * WIDTH, &row);
+    put_in(&mut cells[RECORDS_FROM..end], i * WIDTH, &row);
     cells[RECORDS] = n + 1;
 }

@@ -16,7 +16,7 @@ use neighbours::has_row;
 use originators::count_record;
 use originators::find_record;
 use originators::make_record;
-use record::WIDTH;
+use originators::record_at;
 use routing::best::no_route;
 use rules::Received;
 use wire::check::refusal;
@@ -76,9 +76,7 @@ fn heard_again(
     requires { ⌜ Decides (now cells) (now packet) (now out) m bidirectional × Stands (now cells) (m .originator) i ⌝ }
     ensures { λ r. ⌜ Leaves (now (cells .exit)) (now (out .exit)) r (after (now (cells .entry)) (now (packet .entry)) (now (out .entry)) m) ⌝ }
 {
-    let at = RECORDS_FROM + i * WIDTH;
-    let end = at + WIDTH;
-    let duplicate = is_duplicate(&cells[at..end], cells[WINDOW], m.link, m.sequence);
+    let duplicate = is_duplicate(record_at(cells, i), cells[WINDOW], m.link, m.sequence);
     if bidirectional & !duplicate {
         return count(cells, packet, out, m, i);
     }

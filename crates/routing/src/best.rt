@@ -1,9 +1,8 @@
 // The best question.
 use cells::Found;
-use layout::RECORDS_FROM;
 use layout::WINDOW;
 use originators::find_record;
-use record::WIDTH;
+use originators::record_at;
 use record::route_of;
 use rules::Asked;
 use rules::Route;
@@ -39,11 +38,7 @@ pub fn route_to(cells: &[u64], originator: u32) -> Route
 {
     let f = find_record(cells, originator);
     match f {
-        Found::At(i) => {
-            let at = RECORDS_FROM + i * WIDTH;
-            let end = at + WIDTH;
-            route_of(&cells[at..end], cells[WINDOW] as u32)
-        }
+        Found::At(i) => route_of(record_at(cells, i), cells[WINDOW] as u32),
         Found::Place(_) => no_route(),
     }
 }

@@ -1,16 +1,14 @@
+-- `listing::held_links` meets its contract: the rows of the record that is found, or none. Assumes nothing.
 use borrow.Author.Needs.{needs}
 use mathlib.Core.Path.{refl, sym, ap, _∙_, subst}
 use mathlib.Core.List.{List}
 use mathlib.Core.Option.{Option, some}
 use Prim.Native.Nat.{ℕ}
-use native.Mathlib.Omega.{arith}
-use Rattle.cells.proofs.Lent.{part-is}
-use Rattle.rules.specs.Settings.{recordCells}
 use Rattle.rules.specs.Rules.{linkRows}
 use Rattle.rules.specs.Table.{TableRecord, table}
 use Rattle.record.specs.Record.{decodeRecord}
 use Rattle.layout.specs.Cells.{decode}
-use Rattle.originators.specs.Originators.{recordPlace, Stands, RecordFound}
+use Rattle.originators.specs.Originators.{Stands, RecordFound}
 use Rattle.listing.specs.Listing.{Listable, Finds}
 use Rattle.listing.proofs.Answers.{listable, none-found}
 use Rattle.listing.proofs.held_links.Statement.{statement}
@@ -26,19 +24,15 @@ rows-of-requires : tie.Need-rows-of-requires
 rows-of-requires c κs =
     let f = c .before .before .before in
     let a = f .before .before .before .before .args in
-    let t = stands f in
-    subst Listable (sym (part-is (a .cells .now) (recordPlace (f .f .given .0 .0)) recordCells (t .holds .fits))) (listable (a .cells .now) (a .originator) (f .f .given .0 .0) t)
+    subst Listable (sym (c .before .record-at .ensures)) (listable (a .cells .now) (a .originator) (f .f .given .0 .0) (stands f))
 
 returns : tie.Need-returns
 unfolding decode
 returns c =
-    let f = c .before .before .before .before in
-    let a = f .before .before .before .before .args in
-    let xs = a .cells .now in
-    let t = stands f in
-    subst (λ (x : Option TableRecord). Finds (linkRows table (decode xs .config) x) (c .rows-of .result))
-    (ap (λ (row : List ℕ). some (decodeRecord row .1)) (part-is xs (recordPlace (f .f .given .0 .0)) recordCells (t .holds .fits)) ∙ sym (t .found))
-    (c .rows-of .ensures (decode xs .config) refl)
+    let r = c .before .before in
+    let κ = decode (r .before .before .before .before .before .before .args .cells .now) .config in
+    subst (λ (x : Option TableRecord). Finds (linkRows table κ x) (c .rows-of .result))
+    (ap (λ (row : List ℕ). some (decodeRecord row .1)) (r .record-at .ensures) ∙ sym (stands (r .before .before) .found)) (c .rows-of .ensures κ refl)
 
 returns-2 : tie.Need-returns-2
 returns-2 c =
@@ -50,20 +44,4 @@ returns-2 c =
 pub held-links-spec : {M : Type 1} → statement M
 held-links-spec =
     tie.close
-    (tie.spec
-    (λ c κs. search needs)
-    (λ c. search needs)
-    (λ c. omega (arith, stands (c .before) .holds .fits))
-    (λ c. omega (arith, stands (c .before) .holds .fits))
-    (λ c. omega (arith, stands (c .before) .holds .fits))
-    (λ c. omega (arith, stands (c .before) .holds .fits))
-    (λ c. search needs)
-    (λ c. search needs)
-    (λ c. omega (arith, stands (c .before) .holds .fits))
-    (λ c. search needs)
-    (λ c. search needs)
-    rows-of-requires
-    (λ c. search needs)
-    (λ c κs. search needs)
-    returns
-    returns-2)
+    (tie.spec (λ c κs. search needs) (λ c. search needs) (λ c κs. stands (c .before) .holds) (λ c. search needs) (λ c. search needs) rows-of-requires (λ c. search needs) (λ c κs. search needs) returns returns-2)

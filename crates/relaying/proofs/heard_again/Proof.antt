@@ -4,31 +4,26 @@ use mathlib.Core.List.{List}
 use Prim.Native.Nat.{ℕ}
 use borrow.Author.Needs.{needs}
 use denote.Ref.{now}
-use Rattle.cells.proofs.Lent.{part-is}
-use Rattle.rules.specs.Settings.{recordCells}
 use Rattle.rules.specs.Table.{isMarked}
 use Rattle.record.specs.Record.{decodeRecord, Held}
 use Rattle.layout.specs.Cells.{decode}
 use Rattle.layout.specs.Facts.{recordAt}
-use Rattle.originators.specs.Originators.{recordPlace}
 use Rattle.relaying.proofs.Messages.{again-counts, again-kept}
 use Rattle.relaying.proofs.heard_again.Statement.{statement}
 use Rattle.relaying.proofs.heard_again.Tie as tie
 
 is-duplicate-requires : tie.Need-is-duplicate-requires
 is-duplicate-requires c κs =
-    let s = c .before .before .before .before .before in
-    let h = s .pre .1 .holds in (subst Held (sym (part-is (now (s .args .cells)) (recordPlace (s .args .i)) recordCells (h .fits))) (h .row), h .knows .sized .window-most)
+    let h = c .before .before .before .before .before .pre .1 .holds in (subst Held (sym (c .record-at .ensures)) (h .row), h .knows .sized .window-most)
 
 -- whether its number is marked
 marked-is : (c : tie.After-is-duplicate) → let s = c .before .before .before .before .before .before .args in
     c .is-duplicate .result ≡ isMarked (decode (now (s .cells)) .config) (decodeRecord (recordAt (now (s .cells)) (s .i)) .1) (s .m .link) (s .m .sequence)
 unfolding decode
 marked-is c =
-    let s = c .before .before .before .before .before .before in
-    let κ = decode (now (s .args .cells)) .config in
-    c .is-duplicate .ensures κ refl
-    ∙ ap (λ (l : List ℕ). isMarked κ (decodeRecord l .1) (s .args .m .link) (s .args .m .sequence)) (part-is (now (s .args .cells)) (recordPlace (s .args .i)) recordCells (s .pre .1 .holds .fits))
+    let s = c .before .before .before .before .before .before .args in
+    let κ = decode (now (s .cells)) .config in
+    c .is-duplicate .ensures κ refl ∙ ap (λ (l : List ℕ). isMarked κ (decodeRecord l .1) (s .m .link) (s .m .sequence)) (c .before .record-at .ensures)
 
 count-requires : tie.Need-count-requires
 count-requires c κs =
@@ -51,13 +46,7 @@ pub heard-again-spec : {M : Type 1} → statement M
 heard-again-spec =
     tie.close
     (tie.spec
-    (λ c. search needs)
-    (λ c. search needs)
-    (λ c. search needs)
-    (λ c. search needs)
-    (λ c. search needs)
-    (λ c. search needs)
-    (λ c. search needs)
+    (λ c κs. search needs)
     (λ c. search needs)
     is-duplicate-requires
     count-requires

@@ -4,14 +4,11 @@ use mathlib.Core.Path.{refl, sym, ap, _∙_, subst}
 use mathlib.Core.List.{List}
 use mathlib.Core.Option.{some}
 use Prim.Native.Nat.{ℕ}
-use native.Mathlib.Omega.{arith}
-use Rattle.cells.proofs.Lent.{part-is}
-use Rattle.rules.specs.Settings.{recordCells}
 use Rattle.rules.specs.Rules.{routeOf}
 use Rattle.rules.specs.Table.{table}
 use Rattle.record.specs.Record.{decodeRecord, Held}
 use Rattle.layout.specs.Cells.{decode}
-use Rattle.originators.specs.Originators.{recordPlace, Stands, RecordFound}
+use Rattle.originators.specs.Originators.{Stands, RecordFound}
 use Rattle.routing.proofs.best.route_to.Statement.{statement}
 use Rattle.routing.proofs.best.route_to.Tie as tie
 
@@ -22,19 +19,14 @@ stands c =
     subst (RecordFound (a .cells .now) (a .originator)) (c .f .given .1) (c .before .before .find-record .ensures)
 
 route-of-requires : tie.Need-route-of-requires
-route-of-requires c κs =
-    let f = c .before .before .before in
-    let t = stands f in
-    subst Held (sym (part-is (f .before .before .before .before .args .cells .now) (recordPlace (f .f .given .0 .0)) recordCells (t .holds .fits))) (t .holds .row)
+route-of-requires c κs = subst Held (sym (c .before .record-at .ensures)) (stands (c .before .before .before) .holds .row)
 
 returns : tie.Need-returns
 unfolding decode
 returns c =
-    let f = c .before .before .before .before in
-    let xs = f .before .before .before .before .args .cells .now in
-    let t = stands f in
-    c .route-of .ensures (decode xs .config) refl
-    ∙ ap (routeOf table (decode xs .config)) (ap (λ (row : List ℕ). some (decodeRecord row .1)) (part-is xs (recordPlace (f .f .given .0 .0)) recordCells (t .holds .fits)) ∙ sym (t .found))
+    let r = c .before .before in
+    let κ = decode (r .before .before .before .before .before .before .args .cells .now) .config in
+    c .route-of .ensures κ refl ∙ ap (routeOf table κ) (ap (λ (row : List ℕ). some (decodeRecord row .1)) (r .record-at .ensures) ∙ sym (stands (r .before .before) .found))
 
 returns-2 : tie.Need-returns-2
 returns-2 c =
@@ -46,20 +38,4 @@ returns-2 c =
 pub route-to-spec : {M : Type 1} → statement M
 route-to-spec =
     tie.close
-    (tie.spec
-    (λ c κs. search needs)
-    (λ c. search needs)
-    (λ c. omega (arith, stands (c .before) .holds .fits))
-    (λ c. omega (arith, stands (c .before) .holds .fits))
-    (λ c. omega (arith, stands (c .before) .holds .fits))
-    (λ c. omega (arith, stands (c .before) .holds .fits))
-    (λ c. search needs)
-    (λ c. search needs)
-    (λ c. omega (arith, stands (c .before) .holds .fits))
-    (λ c. search needs)
-    (λ c. search needs)
-    route-of-requires
-    (λ c. search needs)
-    (λ c κs. search needs)
-    returns
-    returns-2)
+    (tie.spec (λ c κs. search needs) (λ c. search needs) (λ c κs. stands (c .before) .holds) (λ c. search needs) (λ c. search needs) route-of-requires (λ c. search needs) (λ c κs. search needs) returns returns-2)
