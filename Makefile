@@ -1,5 +1,6 @@
 # The two commands of the README: `make demo` shows the library at work, `make test` runs every test.
 CC ?= cc
+OBJCOPY ?= objcopy
 CFLAGS ?= -O2
 WARN = -std=c11 -Wall -Wextra -Werror
 ARCHIVE = target/staticlib/libbatman.a
@@ -16,10 +17,12 @@ demo: archive
 	@$(CC) $(CFLAGS) $(WARN) -Iinclude $(YARD) $(ARCHIVE) -o $(BUILD)/demo
 	@$(BUILD)/demo --svg target/yard.svg
 
-# The archive that a C program links: proved first, then compiled.
+# The archive that a C program links: proved first, then compiled. Each function is made to begin on a cache line, so that how fast its loops are does not
+# depend on where a program's linker puts them.
 archive:
 	@mkdir -p target
 	@rt staticlib batman > target/staticlib.log 2>&1 || { cat target/staticlib.log; exit 1; }
+	@$(OBJCOPY) --set-section-alignment '.text.*=64' $(ARCHIVE)
 
 test:
 	@tools/test
