@@ -66,7 +66,7 @@ struct limits {
     uint64_t most_marks, used, time, own[4];
 };
 
-/* Tests one after another: in a well-formed table no branch but the one for best ever goes the other way. */
+/* Tests one after another: in a well-formed table none ever goes the other way but for a link without a mark, which is then best. */
 static inline bool links_ok(const uint64_t *r, const struct limits *l)
 {
     const uint64_t *link = r + LINKS_FROM;
@@ -74,12 +74,11 @@ static inline bool links_ok(const uint64_t *r, const struct limits *l)
     bool held = false;
     for (uint64_t i = 0; i < n; i++) {
         uint64_t key = link[LINK * i], marks = link[LINK * i + 1];
-        if (key < low || key >> 34 || (key & 3) >= l->used || marks > l->most_marks)
+        if (key < low || key >> 34 || (key & 3) >= l->used)
             return false;
-        if (key == best)
-            held = true;
-        else if (marks == 0)
+        if (marks - 1 >= l->most_marks && (marks != 0 || key != best))
             return false;
+        held |= key == best;
         low = key + 1;
     }
     return held && zeros(link + LINK * n, r + RECORD);
