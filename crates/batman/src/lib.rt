@@ -31,7 +31,7 @@ pub struct Interfaces {
 pub extern "C" fn batman_packet_check(packet: &[u8], version: u64) -> u64
     ensures { λ r. ⌜ r ≡ packetCheck version (now (packet .entry)) ⌝ }
 {
-    wire::check::packet_check(packet, version)
+    packet_check::packet_check(packet, version)
 }
 
 // How many cells a capacity needs; 0 for one that is not allowed.

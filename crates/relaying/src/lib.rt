@@ -19,7 +19,7 @@ use originators::make_record;
 use originators::record_at;
 use routing::best::no_route;
 use rules::Received;
-use wire::check::refusal;
+use wire::refusal;
 ghost use Rattle.originators.specs.Originators.{Stands, Missing};
 ghost use Rattle.arrivals.specs.Receiving.{after, Leaves, Taken, Ruled, Decides, Counts, foreign};
 

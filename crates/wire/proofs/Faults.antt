@@ -1,4 +1,4 @@
--- The last of a list of refusals, and how large a refusal's numbers are. Assumes nothing.
+-- How large a refusal's numbers are: a number of at most 8, and a place of at most m. Assumes nothing.
 use mathlib.Core.Path.{_≡_, refl, ap, _∙_}
 use mathlib.Core.Bool.{Bool, true, false, cond, not, _||_, _&&_, or-true}
 use mathlib.Core.List.{List, [], _∷_}
@@ -14,13 +14,6 @@ use Rattle.wire.specs.Layout.{headerSize, entrySize, packetMost, maskMos
 use Rattle.wire.specs.Packet.{octet, hna}
 use Rattle.wire.specs.Check.{given, firstOf, faultOf, entries, mask, maskFault, firstBadMask, hnaFaults, hnaFault, packetFaults, packetFault}
 use Rattle.wire.proofs.Search.{below}
-
--- the last of a list stands for itself
-pub last : (x : Option Fault) → faultOf x ≡ faultOf (maybe {X = Option Fault} x none some)
-last none = refl
-last (some f) = refl
-
--- ---- a number of at most 8, and a place of at most m
 
 unfoldable isSmall : ℕ → Option Fault → Bool
 isSmall m x = maybe x true (λ f. leb (f .number) 8 && leb (f .place) m)

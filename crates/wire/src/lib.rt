@@ -1,7 +1,6 @@
-// The octets on the air: packets checked, read and written.
-pub mod check;
-pub mod message;
-pub mod output;
+// The octets on the air: what a packet says, and what is refused of it.
+ghost use mathlib.Core.Path.{_≡_};
+ghost use Rattle.wire.specs.Check.{numbered};
 
 // The originator message with which a packet begins.
 #[repr(C)]
@@ -27,10 +26,14 @@ pub enum Place {
     Nowhere,
 }
 
-// The octets of a message, and of an HNA entry.
+// The octets of a message, and where its version stands.
 pub const HEADER_SIZE: usize = 12;
 
-pub const ENTRY_SIZE: usize = 5;
+pub const VERSION_AT: usize = 0;
 
-// The most octets of a packet.
-pub const PACKET_MOST: usize = 1472;
+// A refusal without a place, or with number 0 none.
+pub fn refusal(number: u64) -> Fault
+    ensures { λ r. ⌜ r ≡ numbered number ⌝ }
+{
+    Fault { number, place: 0 }
+}

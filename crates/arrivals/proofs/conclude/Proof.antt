@@ -8,9 +8,9 @@ use Rattle.arrivals.proofs.conclude.Statement.{statement}
 use Rattle.arrivals.proofs.conclude.Tie as tie
 use Rattle.arrivals.proofs.conclude.Reads as reads
 use Rattle.arrivals.proofs.conclude.Lts as lts
-use Rattle.wire.proofs.output.flags_elsewhere.Reads as flags-elsewhere-reads
-use Rattle.wire.proofs.output.flags_here.Reads as flags-here-reads
-use Rattle.wire.proofs.output.pass_on.Reads as pass-on-reads
+use Rattle.packets.proofs.output.flags_elsewhere.Reads as flags-elsewhere-reads
+use Rattle.packets.proofs.output.flags_here.Reads as flags-here-reads
+use Rattle.packets.proofs.output.pass_on.Reads as pass-on-reads
 
 returns : tie.Need-returns
 returns c =

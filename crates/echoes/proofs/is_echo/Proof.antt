@@ -6,7 +6,7 @@ use Rattle.echoes.proofs.is_echo.Statement.{statement}
 use Rattle.echoes.proofs.is_echo.Tie as tie
 use Rattle.echoes.proofs.is_echo.Reads as reads
 use Rattle.echoes.proofs.is_echo.Lts as lts
-use Rattle.wire.proofs.output.is_direct.Reads as is-direct-reads
+use Rattle.packets.proofs.output.is_direct.Reads as is-direct-reads
 
 mul-at : tie.Need-mul-at
 mul-at c = search needs

@@ -24,7 +24,7 @@ use Rattle.echoes.proofs.take_echo.Lts as lts
 use Rattle.neighbours.proofs.record_echo.Reads as record-echo-reads
 use Rattle.arrivals.proofs.answered.Reads as answered-reads
 use Rattle.arrivals.proofs.refused.Reads as refused-reads
-use Rattle.wire.proofs.check.refusal.Reads as refusal-reads
+use Rattle.wire.proofs.refusal.Reads as refusal-reads
 
 -- what the echo left of the neighbour rows
 abbrev rows-of : (s : tie.Start) → List ℕ

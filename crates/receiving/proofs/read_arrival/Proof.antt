@@ -11,7 +11,7 @@ use Rattle.receiving.proofs.read_arrival.Statement.{statement}
 use Rattle.receiving.proofs.read_arrival.Tie as tie
 use Rattle.receiving.proofs.read_arrival.Reads as reads
 use Rattle.receiving.proofs.read_arrival.Lts as lts
-use Rattle.wire.proofs.message.read.Reads as read-reads
+use Rattle.packets.proofs.message.read.Reads as read-reads
 
 read-requires : tie.Need-read-requires
 read-requires c κs = search needs

@@ -9,8 +9,8 @@ use Rattle.receiving.proofs.receive_fault.Statement.{statement}
 use Rattle.receiving.proofs.receive_fault.Tie as tie
 use Rattle.receiving.proofs.receive_fault.Reads as reads
 use Rattle.receiving.proofs.receive_fault.Lts as lts
-use Rattle.wire.proofs.check.refusal.Reads as refusal-reads
-use Rattle.wire.proofs.check.packet_fault.Reads as packet-fault-reads
+use Rattle.wire.proofs.refusal.Reads as refusal-reads
+use Rattle.packet_check.proofs.packet_fault.Reads as packet-fault-reads
 
 shared-slice-read-if1 : tie.Need-shared-slice-read-if1
 shared-slice-read-if1 c = search needs

@@ -18,7 +18,7 @@ use Rattle.relaying.proofs.count.Lts as lts
 use Rattle.originators.proofs.count_record.Reads as count-record-reads
 use Rattle.arrivals.proofs.conclude_by.Reads as conclude-by-reads
 use Rattle.arrivals.proofs.refused.Reads as refused-reads
-use Rattle.wire.proofs.check.refusal.Reads as refusal-reads
+use Rattle.wire.proofs.refusal.Reads as refusal-reads
 
 -- the message is counted
 made : (c : tie.Else1) → let s = c .before .before .before .before .before .before .before .before in Concludes (now (s .args .cells)) (now (s .args .packet)) (now (s .args .out)) (set (c .before .before .before .count-record .last .0) timeAt (s .args .m .time)) (s .args .m) (s .args .i) true false

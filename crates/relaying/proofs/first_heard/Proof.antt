@@ -22,7 +22,7 @@ use Rattle.arrivals.proofs.conclude.Reads as conclude-reads
 use Rattle.arrivals.proofs.conclude_by.Reads as conclude-by-reads
 use Rattle.arrivals.proofs.refused.Reads as refused-reads
 use Rattle.routing.proofs.best.no_route.Reads as no-route-reads
-use Rattle.wire.proofs.check.refusal.Reads as refusal-reads
+use Rattle.wire.proofs.refusal.Reads as refusal-reads
 
 -- the record is made
 made : (c : tie.After-make-record) → let s = c .before .before .before .before .before .before .before .before .before in Concludes (now (s .args .cells)) (now (s .args .packet)) (now (s .args .out)) (set (c .make-record .last .0) timeAt (s .args .m .time)) (s .args .m) (s .args .i) true false

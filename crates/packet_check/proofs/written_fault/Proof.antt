@@ -1,0 +1,15 @@
+-- `packet_check::written_fault` meets its contract. Assumes nothing.
+use mathlib.Core.Path.{_∙_}
+use borrow.Author.Needs.{needs}
+use Rattle.wire.proofs.Order.{too-many, few}
+use Rattle.packet_check.proofs.written_fault.Statement.{statement}
+use Rattle.packet_check.proofs.written_fault.Tie as tie
+
+returns : tie.Need-returns
+returns c = c .refusal .ensures ∙ too-many _ (c .before .if1 .taken)
+
+returns-2 : tie.Need-returns-2
+returns-2 c = c .hna-fault .ensures ∙ few _ (search needs)
+
+pub written-fault-spec : {M : Type 1} → statement M
+written-fault-spec = tie.close (tie.spec (λ c. search needs) (λ c κs. search needs) returns (λ c κs. search needs) returns-2)

@@ -1,0 +1,103 @@
+// The packet check: refusals 5, 6, 7 and 8, in this order, for any octets.
+use wire::Fault;
+use wire::HEADER_SIZE;
+use wire::Place;
+use wire::VERSION_AT;
+use wire::refusal;
+ghost use mathlib.Core.Path.{_≡_};
+ghost use Rattle.wire.specs.Check as C;
+ghost use Rattle.wire.specs.Place.{placeOf};
+
+// The most octets of a packet.
+const PACKET_MOST: usize = 1472;
+
+// The octets of an HNA entry, where its mask stands, and the longest that is allowed.
+const ENTRY_SIZE: usize = 5;
+
+const MASK_AT: usize = 4;
+
+const MASK_MOST: u8 = 32;
+
+// The refusal numbers.
+const WRONG_SIZE: u64 = 5;
+
+const WRONG_VERSION: u64 = 6;
+
+const RAGGED_ENTRIES: u64 = 7;
+
+const WRONG_MASK: u64 = 8;
+
+// An octet as a wide number.
+fn wide(octet: u8) -> u64
+    ensures { λ r. ⌜ r ≡ octet ⌝ }
+{
+    octet as u64
+}
+
+// The place of the first entry with a mask above 32.
+fn first_bad_mask(hna: &[u8]) -> Place
+    ensures { λ r. ⌜ r ≡ placeOf (C.firstBadMask (now (hna .entry))) ⌝ }
+{
+    let entries = hna.len() / ENTRY_SIZE;
+    let mut k = 0;
+    loop {
+        if k == entries {
+            break Place::Nowhere;
+        }
+        if hna[ENTRY_SIZE * k + MASK_AT] > MASK_MOST {
+            break Place::At(k);
+        }
+        k += 1;
+    }
+}
+
+// What is refused of HNA octets, received or to be written.
+fn hna_fault(hna: &[u8]) -> Fault
+    ensures { λ r. ⌜ r ≡ C.faultOf (C.hnaFault (now (hna .entry))) ⌝ }
+{
+    if hna.len() % ENTRY_SIZE != 0 {
+        return refusal(RAGGED_ENTRIES);
+    }
+    match first_bad_mask(hna) {
+        Place::At(k) => Fault {
+            number: WRONG_MASK,
+            place: k as u64,
+        },
+        Place::Nowhere => refusal(0),
+    }
+}
+
+// What is refused of a received packet.
+pub fn packet_fault(packet: &[u8], version: u64) -> Fault
+    ensures { λ r. ⌜ r ≡ C.faultOf (C.packetFault version (now (packet .entry))) ⌝ }
+{
+    let n = packet.len();
+    if n < HEADER_SIZE {
+        return refusal(WRONG_SIZE);
+    }
+    if n > PACKET_MOST {
+        return refusal(WRONG_SIZE);
+    }
+    if wide(packet[VERSION_AT]) != version {
+        return refusal(WRONG_VERSION);
+    }
+    hna_fault(&packet[HEADER_SIZE..])
+}
+
+// What is refused of the packet that would have these HNA octets.
+pub fn written_fault(hna: &[u8]) -> Fault
+    ensures { λ r. ⌜ r ≡ C.faultOf (C.writtenFault (now (hna .entry))) ⌝ }
+{
+    if hna.len() > PACKET_MOST - HEADER_SIZE {
+        return refusal(WRONG_SIZE);
+    }
+    hna_fault(hna)
+}
+
+// The check's answer as one number: 0, or the refusal and 256 times its place.
+pub fn packet_check(packet: &[u8], version: u64) -> u64
+    ensures { λ r. ⌜ r ≡ C.packetCheck version (now (packet .entry)) ⌝ }
+{
+    let fault = packet_fault(packet, version);
+    fault.number + 256 * fault.place
+}

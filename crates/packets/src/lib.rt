@@ -1,0 +1,3 @@
+// A packet's octets read and written.
+pub mod message;
+pub mod output;
