@@ -86,7 +86,8 @@ pub fn octets(h: Header) -> [u8; 12]
 {
     let n = h.sequence;
     let p = h.port;
-    let o = h.originator;
+    let u = upper(h.originator);
+    let l = lower(h.originator);
     [
         h.version,
         h.flags,
@@ -96,9 +97,9 @@ pub fn octets(h: Header) -> [u8; 12]
         low(n),
         high(p),
         low(p),
-        high(upper(o)),
-        low(upper(o)),
-        high(lower(o)),
-        low(lower(o)),
+        high(u),
+        low(u),
+        high(l),
+        low(l),
     ]
 }

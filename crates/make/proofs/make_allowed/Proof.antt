@@ -71,10 +71,10 @@ returns-4 c =
     let k3 = c .before .before .before .struct-known3 .given in
     let k4 = c .before .before .struct-known4 .given in
     let ranges = four-in-range (four noInterface rows (s .good .1 .1 .0 .1 .0 .1))
-    (in-range (getD rows 0 noInterface) (omega (arith, k1 .0)) (omega (arith, k1 .1 .0)) (omega (arith, k1 .1 .1 .0)))
-    (in-range (getD rows 1 noInterface) (omega (arith, k2 .0)) (omega (arith, k2 .1 .0)) (omega (arith, k2 .1 .1 .0)))
-    (in-range (getD rows 2 noInterface) (omega (arith, k3 .0)) (omega (arith, k3 .1 .0)) (omega (arith, k3 .1 .1 .0)))
-    (in-range (getD rows 3 noInterface) (omega (arith, k4 .0)) (omega (arith, k4 .1 .0)) (omega (arith, k4 .1 .1 .0))) in
+    (in-range (getD rows 0 noInterface) (k1 .0 .fits) (k1 .1 .0 .fits) (k1 .1 .1 .0 .fits))
+    (in-range (getD rows 1 noInterface) (k2 .0 .fits) (k2 .1 .0 .fits) (k2 .1 .1 .0 .fits))
+    (in-range (getD rows 2 noInterface) (k3 .0 .fits) (k3 .1 .0 .fits) (k3 .1 .1 .0 .fits))
+    (in-range (getD rows 3 noInterface) (k4 .0 .fits) (k4 .1 .0 .fits) (k4 .1 .1 .0 .fits)) in
     size-decides (a .n) (given s) (s .good .1 .1 .0 .1 .0 .1) ranges (settings (c .before .before .before .before .before .before .before .before .before .before .before)) (used (c .before .before .before .before .before .before .before .before .before .before)) (sym (apart (c .before)) ∙ not-false _ (c .if3 .left))
 
 pub make-allowed-spec : {M : Type 1} → statement M

@@ -1,5 +1,5 @@
 -- `packet_check::hna_fault` meets its contract. Assumes nothing.
-use mathlib.Core.Path.{_∙_}
+use mathlib.Core.Path.{sym, _∙_}
 use borrow.Author.Needs.{needs}
 use Rattle.wire.specs.declared.Place.the-variants.{At, Nowhere}
 use Rattle.wire.proofs.Order.{ragged, whole}
@@ -10,10 +10,14 @@ returns : tie.Need-returns
 returns c = c .refusal .ensures ∙ ragged _ (c .before .if1 .taken)
 
 returns-2 : tie.Need-returns-2
-returns-2 c = whole _ (search needs) (At (c .before .k .given .0 .0)) (cc)
+returns-2 c =
+    let o = c .before .before .before in
+    whole _ (o .before .if1 .left) (At (c .before .k .given .0 .0)) (sym (c .before .k .given .1) ∙ o .first-bad-mask .ensures)
 
 returns-3 : tie.Need-returns-3
-returns-3 c = c .refusal2 .ensures ∙ whole _ (search needs) Nowhere (cc)
+returns-3 c =
+    let o = c .before .before .before in
+    c .refusal2 .ensures ∙ whole _ (o .before .if1 .left) Nowhere (sym (c .before .enum-told .given .1) ∙ o .first-bad-mask .ensures)
 
 pub hna-fault-spec : {M : Type 1} → statement M
 hna-fault-spec =

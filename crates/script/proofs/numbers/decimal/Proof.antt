@@ -24,13 +24,13 @@ returns-2 : tie.Need-returns-2 Inv-loop μ-loop
 returns-2 c =
     let l = c .before .before .before .before .before in
     let a = l .before .before .before .args in
-    sym (digit-bad (a .most) (l .loop .number) (a .word .now) (l .loop .i) (omega arith) (cc)) ∙ l .loop .inv .1
+    sym (digit-bad (a .most) (l .loop .number) (a .word .now) (l .loop .i) (omega arith) (sym (c .enum-told .given .1) ∙ c .before .before .with-digit .ensures)) ∙ l .loop .inv .1
 
 loop-again : tie.Need-loop-again Inv-loop μ-loop
 loop-again c =
     let l = c .before .before .before .before .before .before in
     let a = l .before .before .before .args in
-    (omega arith, sym (digit-read (a .most) (l .loop .number) (a .word .now) (l .loop .i) (omega arith) (c .before .next .given .0 .0) (cc)) ∙ l .loop .inv .1)
+    (omega arith, sym (digit-read (a .most) (l .loop .number) (a .word .now) (l .loop .i) (omega arith) (c .before .next .given .0 .0) (sym (c .before .next .given .1) ∙ c .before .before .before .with-digit .ensures)) ∙ l .loop .inv .1)
 
 returns-3 : tie.Need-returns-3 Inv-loop μ-loop
 returns-3 c =

@@ -1,25 +1,32 @@
 use borrow.Author.Needs.{needs}
-use mathlib.Core.Path.{refl}
+use mathlib.Core.Path.{_≡_, refl, sym, _∙_}
 use native.Mathlib.Omega.{arith}
 use Rattle.script.specs.declared.octets.Digit.the-variants.{Is, Bad}
+use Rattle.script.specs.Octets.{digitOf}
 use Rattle.script.proofs.OctetLaws.{small, pair-of}
 use Rattle.script.proofs.octets.pair.Statement.{statement}
 use Rattle.script.proofs.octets.pair.Tie as tie
 
+high : (c : tie.After-h) → Is (c .h .given .0 .0) ≡ digitOf (c .before .before .before .args .high)
+high c = sym (c .h .given .1) ∙ c .before .before .digit-of .ensures
+
+low : (c : tie.After-l) → Is (c .l .given .0 .0) ≡ digitOf (c .before .before .before .before .before .before .before .args .low)
+low c = sym (c .l .given .1) ∙ c .before .before .digit-of2 .ensures
+
 returns : tie.Need-returns
-returns c = pair-of _ (c .before .before .before .args .low) Bad _ (cc) refl
+returns c = pair-of _ (c .before .before .before .args .low) Bad _ (sym (c .enum-told .given .1) ∙ c .before .before .digit-of .ensures) refl
 
 returns-2 : tie.Need-returns-2
-returns-2 c = pair-of _ _ (Is (c .before .before .before .before .h .given .0 .0)) Bad (cc) (cc)
+returns-2 c = pair-of _ _ _ Bad (high (c .before .before .before .before)) (sym (c .enum-told2 .given .1) ∙ c .before .before .digit-of2 .ensures)
 
 mul-t7 : tie.Need-mul-t7
-mul-t7 c = omega (arith, small (c .before .before .before .before .before .before .before .before .args .high) (c .before .before .before .before .before .h .given .0 .0) (cc))
+mul-t7 c = omega (arith, small _ _ (high (c .before .before .before .before .before)))
 
 add-t8 : tie.Need-add-t8
-add-t8 c = omega (arith, small (c .before .before .before .before .before .before .before .before .args .high) (c .before .before .before .before .before .h .given .0 .0) (cc), small (c .before .before .before .before .before .before .before .before .args .low) (c .before .l .given .0 .0) (cc))
+add-t8 c = omega (arith, small _ _ (high (c .before .before .before .before .before)), small _ _ (low (c .before)))
 
 returns-3 : tie.Need-returns-3
-returns-3 c = pair-of _ _ (Is (c .before .before .before .before .before .h .given .0 .0)) (Is (c .before .l .given .0 .0)) (cc) (cc)
+returns-3 c = pair-of _ _ _ _ (high (c .before .before .before .before .before)) (low (c .before))
 
 pub pair-spec : {M : Type 1} → statement M
 pair-spec =
