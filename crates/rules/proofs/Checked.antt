@@ -1,24 +1,30 @@
--- P1 to P12 and the edges: the rule gives the answer due at every row, by one test that antt computes over all rows.
-use Prim.Native.Nat.{ℕ}
-use mathlib.Core.Path.{_≡_, refl, sym, ap₂, subst}
+-- P1 to P12 and the edges: the rule gives the answer due at every row, by one test that antt computes over all rows but the first of the edges.
+use Prim.Native.Nat.{ℕ, _+_, _*_, _≤_, _<_}
+use mathlib.Core.Path.{_≡_, refl, sym, ap₂, subst, _∙_}
 use mathlib.Core.Bool.{Bool, true, false, _&&_, false≢true}
 use mathlib.Core.List.{List, [], _∷_, List·Memᴰ, List·Memᴰ·head, List·Memᴰ·tail}
 use lib.Dec.{eqb}
+use mathlib.Core.Option.{none}
+use native.Mathlib.Omega.{arith}
+use lib.ListN.{length, drop, replicate, getD-replicate}
 use lib.Count.{ones, onesIn}
 use borrow.Author.Tests.{eqb-true}
 use Rattle.lists.specs.Lists.{all, writtenTo}
-use Rattle.lists.proofs.Tests.{and-left, and-right}
+use Rattle.lists.proofs.Tests.{and-left, and-right, both}
 use Rattle.window.specs.Window.{distance, inside, advance, bit, shift, mark, word}
+use Rattle.wire.specs.declared.Header.{Header}
+use Rattle.wire.specs.Layout.{entrySize, maskAt, maskMost}
 use Rattle.wire.specs.Packet.{header, headerOctets, packetOf, isU, isD, unnamed}
-use Rattle.wire.specs.Check.{firstWhere, firstBadMask, hnaFault, packetFault, writtenFault, packetCheck}
+use Rattle.wire.specs.Check.{mask, firstWhere, firstBadMask, hnaFault, packetFault, writtenFault, packetCheck}
 use Rattle.wire.specs.PassOn.{flagsHere, flagsElsewhere, passedOn}
+use Rattle.wire.proofs.Laws.{reads-back, allowed as allowed-written}
 use Rattle.rules.specs.Settings.{allowed, cellsNeeded, makeAllowed}
 use Rattle.rules.specs.Calls.{linkOf, neighbourOf, interfaceOf, refusal}
 use Rattle.rules.specs.Rules.{notHigher, lastSent, nextNumber, branch, unless, receiveFault, ownFault, conclude, answerBest, fillRows, verdict, storeCounted, counted, uncounted, decide, takeEcho, judge, send, purge, step}
 use Rattle.rules.specs.Table.{firstRecord, nextRecord, isMarked, recordEcho, dropOld}
 use Rattle.rules.specs.WellFormed.{wellFormed}
-use Rattle.rules.specs.Examples.{Row, reply, examples}
-use Rattle.rules.specs.Edges.{edges}
+use Rattle.rules.specs.Examples.{Row, row, reply, examples}
+use Rattle.rules.specs.Edges.{checked, edges}
 
 abbrev same : List ℕ → List ℕ → Bool
 same [] [] = true
@@ -48,8 +54,18 @@ asks r = reply (r .ask)
 abbrev says : Row → List ℕ
 says r = r .says
 
+-- a packet of 1,472 octets is accepted, by the laws: its 292 masks would take long to compute
+longest : right asks says (row (checked 4 (replicate 1460 0)) (0 ∷ [])) ≡ true
+unfolding packetCheck packetOf headerOctets
+longest =
+    let e : List ℕ = replicate 1460 0 in
+    let h : Header = record { version = 4; flags = 0; ttl = 0; gateway = 0; sequence = 0; port = 0; originator = 0 } in
+    let masks : (k : ℕ) → k < 292 → mask e k ≤ maskMost = λ k l. let z : mask e k ≡ 0 = getD-replicate 1460 (entrySize * k + maskAt) 0 0 (omega arith) in rw z (omega arith) in
+    let none-found : packetFault 4 (packetOf h e) ≡ none = reads-back h e .check ∙ allowed-written e (record { few = omega arith; whole = refl; masks = masks }) in
+    rw none-found
+
 -- the test, over both tables
-all-right : (all (right asks says) examples ≡ true) × (all (right asks says) edges ≡ true)
+all-right : (all (right asks says) examples ≡ true) × (all (right asks says) (drop 1 edges) ≡ true)
 unfolding examples edges wellFormed ones onesIn writtenTo distance inside advance bit shift mark word header headerOctets packetOf isU isD unnamed firstWhere firstBadMask hnaFault packetFault writtenFault packetCheck flagsHere flagsElsewhere passedOn allowed cellsNeeded makeAllowed linkOf neighbourOf interfaceOf refusal notHigher lastSent nextNumber branch unless receiveFault ownFault conclude answerBest fillRows verdict storeCounted counted uncounted decide takeEcho judge send purge step firstRecord nextRecord isMarked recordEcho dropOld
 all-right = (refl, refl)
 
@@ -58,4 +74,5 @@ pub examples-hold : (r : Row) → List·Memᴰ r examples → reply (r .ask) ≡
 examples-hold = each asks says examples (all-right .0)
 
 pub edges-hold : (r : Row) → List·Memᴰ r edges → reply (r .ask) ≡ r .says
-edges-hold = each asks says edges (all-right .1)
+unfolding edges
+edges-hold = each asks says edges (both longest (all-right .1))

@@ -87,11 +87,11 @@ blank = record { neighbour = 9; interface = 9; count = 9; window = 9; best = 0 }
 
 unfoldable pub edges : List Row
 edges =
-    -- 5: 11 and 12 octets, 1,472 and 1,473
-    row (checks 4 (4 ∷ replicate 10 0)) (5 ∷ [])
-    ∷ row (checked 4 []) (0 ∷ [])
-    ∷ row (checked 4 (replicate 1460 0)) (0 ∷ [])
+    -- 5: 1,472 and 1,473 octets, 11 and 12
+    row (checked 4 (replicate 1460 0)) (0 ∷ [])
     ∷ row (checked 4 (replicate 1461 0)) (5 ∷ [])
+    ∷ row (checks 4 (4 ∷ replicate 10 0)) (5 ∷ [])
+    ∷ row (checked 4 []) (0 ∷ [])
     -- 6, 7, and 8 with the first bad place; the lower number first
     ∷ row (checked 5 []) (6 ∷ [])
     ∷ row (checked 4 (replicate 4 0)) (7 ∷ [])
@@ -121,8 +121,8 @@ edges =
     ∷ row (plays empty (write 0 0 1 12 [] ∷ write 0 0 2 12 [] ∷ [])) (13 ∷ 0 ∷ 0 ∷ 6 ∷ [])
     ∷ row (plays empty (write 0 0 1 22 (entriesWith (32 ∷ 33 ∷ [])) ∷ [])) (264 ∷ 0 ∷ [])
     ∷ row (plays empty (write 1 0 50 12 [] ∷ write 1 0 50 12 [] ∷ [])) (0 ∷ 65535 ∷ 0 ∷ 0 ∷ [])
-    -- an own packet of 1,472 octets and of 1,477; of 16; the output exactly as long and one shorter
-    ∷ row (plays empty (write 0 0 50 1472 (replicate 1460 0) ∷ write 0 0 50 1477 (replicate 1465 0) ∷ [])) (0 ∷ 6 ∷ 5 ∷ 0 ∷ [])
+    -- an own packet of 1,472 octets, where a bad mask is found, and of 1,477; of 16; the output exactly as long and one shorter
+    ∷ row (plays empty (write 0 0 50 1472 (entriesWith (33 ∷ []) ++ replicate 1455 0) ∷ write 0 0 50 1477 (entriesWith (33 ∷ []) ++ replicate 1460 0) ∷ [])) (8 ∷ 0 ∷ 5 ∷ 0 ∷ [])
     ∷ row (plays empty (write 0 0 50 16 (replicate 4 0) ∷ write 0 0 50 11 [] ∷ write 0 0 50 1476 (replicate 1465 0) ∷ [])) (7 ∷ 0 ∷ 4 ∷ 0 ∷ 4 ∷ 0 ∷ [])
     -- its octets, high octet first, and the rest of the output untouched; all of it where it is refused
     ∷ row (leaves empty (own (record { interface = 1; time = 0; ttl = 3; gateway = 7; port = 258; hna = 1 ∷ 2 ∷ 3 ∷ 4 ∷ 24 ∷ []; output = replicate 18 9 })))
