@@ -1,23 +1,23 @@
 // Reads a script of calls on standard input, makes them in order on one table, and prints every answer.
-mod calls;
-mod lines;
-mod printing;
+mod session;
 
-use crate::lines::Session;
-use crate::lines::last_line;
-use crate::lines::take_piece;
-use crate::printing::finish;
+use crate::session::Session;
+use crate::session::finish;
+use crate::session::last_line;
+use crate::session::take_piece;
 use libc::STDIN_FILENO;
+use lines::requests::CELLS_MOST;
 
-// How many octets are read at once, how many a line has at most, how many cells the buffer has, and how many octets are
-// printed at once.
+// How many octets are read at once, and how many a line has at most.
 const PIECE: usize = 65536;
 
 const LINE_MOST: usize = 8192;
 
-const CELLS: usize = 66560;
+// How many octets a cell's line has at most: `cell`, a space and 5 digits, a space and 20 digits, and the line end.
+const CELL_LINE: usize = 32;
 
-const TEXT: usize = 65536;
+// The text has room for what is gathered before it is written out, and for the longest answer behind it: all cells.
+const TEXT: usize = session::GATHERED + CELLS_MOST * CELL_LINE;
 
 // Reads to the end of the input. A proved loop has to end, and nothing says that an input does: so the loop counts its
 // turns down, from a number that no run uses up.
@@ -45,7 +45,7 @@ fn replay(piece: &mut [u8], line: &mut [u8], cells: &mut [u64], text: &mut [u8])
 fn main() {
     let mut piece = [0u8; PIECE];
     let mut line = [0u8; LINE_MOST];
-    let mut cells = [0u64; CELLS];
+    let mut cells = [0u64; CELLS_MOST];
     let mut text = [0u8; TEXT];
     replay(&mut piece, &mut line, &mut cells, &mut text);
 }

@@ -9,7 +9,7 @@ use Rattle.replay.proofs.replay.Statement.{statement}
 use Rattle.replay.proofs.replay.Tie as tie
 
 abbrev Inv-loop : tie.InvT-loop
-Inv-loop piece₀ line₀ cells₀ text₀ s₀ turns₀ piece line cells text s turns = (length piece ≡ length piece₀) × (length line ≡ length line₀) × (length cells ≡ length cells₀) × (length text ≡ length text₀) × (s .lent ≤ length cells)
+Inv-loop piece₀ line₀ cells₀ text₀ s₀ turns₀ piece line cells text s turns = (length piece ≡ length piece₀) × (length line ≡ length line₀) × (length cells ≡ length cells₀) × (length text ≡ length text₀)
 
 abbrev μ-loop : tie.MeasureT-loop
 μ-loop piece₀ line₀ cells₀ text₀ s₀ turns₀ piece line cells text s turns = turns
