@@ -2,3 +2,4 @@
 pub mod Ways
 pub mod Tables
 pub mod Endings
+pub mod Rows

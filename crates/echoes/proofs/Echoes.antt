@@ -1,4 +1,4 @@
--- The neighbour rows in a table's cells, and the row that an echo's link takes. Assumes nothing.
+-- The row that an echo's link takes. Assumes nothing.
 use mathlib.Core.Path.{_≡_, refl, sym, ap, _∙_, subst}
 use mathlib.Core.Logic.{_⊎_, inl, inr, ⊎-elim}
 use mathlib.Core.Bool.{Bool, true, false, _&&_}
@@ -11,8 +11,6 @@ use lib.Dec.{eqb}
 use lib.ListN.{length, take, drop, set, getD}
 use Rattle.lists.specs.Lists.{and, all}
 use Rattle.lists.specs.Keyed.{hasKey, put}
-use Rattle.lists.proofs.Lists.{all-weaken}
-use Rattle.lists.proofs.Rising.{rising-out}
 use Rattle.lists.proofs.Tests.{and-at}
 use Rattle.cells.specs.Pairs.{pairArea, pairsOf}
 use Rattle.cells.proofs.Pairs.{length-pairs}
@@ -29,33 +27,13 @@ use Rattle.layout.specs.Layout.{rowsAt, timeAt, neighboursFrom, neighbourPart}
 use Rattle.layout.specs.Cells.{encode, decode}
 use Rattle.layout.specs.Facts.{Knows}
 use Rattle.changes.specs.Changes as changed
-use Rattle.changes.proofs.Parts.{time-set, rows-lent, rows-back}
-use Rattle.neighbours.specs.Neighbours.{RowsHeld, Recorded, NoRoom}
+use Rattle.changes.proofs.Parts.{time-set, rows-back}
+use Rattle.neighbours.specs.Neighbours.{Recorded, NoRoom}
 use Rattle.arrivals.specs.declared.Arrival.{Arrival}
 use Rattle.arrivals.specs.Receiving.{callOf, after, Fits, Taken, Echoes}
 use Rattle.arrivals.proofs.Ways.{way-9, way-22}
 use Rattle.arrivals.proofs.Endings.{link-is, sequence-is, kept-by}
-
--- the rows as they are lent
-abbrev lent : List ℕ → List ℕ
-lent c = take 64 (drop neighboursFrom c)
-
-pub rows-held : (c : List ℕ) → Knows c → RowsHeld (getD c rowsAt 0) (lent c)
-unfolding decode
-rows-held c k =
-    let s = decode c in
-    let w : Wf s = parts s (k .valid) in
-    record {
-      most = k .sized .rows;
-      cells = ap lent (sym (k .cells)) ∙ rows-lent s;
-      rises = rising-out (s .rows) (w .rows .rise);
-      numbers = all-weaken (λ x. and (rowTests (s .config) (s .sends) x)) (λ x. isNumber (x .1)) (λ x h. and-at (rowTests (s .config) (s .sends) x) h 3) (s .rows) (w .rows .each);
-    }
-
--- what they hold are the table's rows
-pub rows-are : (c : List ℕ) → pairsOf (getD c rowsAt 0) (lent c) ≡ decode c .rows
-unfolding decode
-rows-are c = refl
+use Rattle.arrivals.proofs.Rows.{lent, rows-are}
 
 rows-count : (c : List ℕ) → length (decode c .rows) ≡ getD c rowsAt 0
 rows-count c = ap length (sym (rows-are c)) ∙ length-pairs (getD c rowsAt 0) (lent c)

@@ -15,7 +15,8 @@ use Rattle.neighbours.specs.Neighbours.{EchoTaken, Recorded, NoRoom}
 use Rattle.arrivals.specs.Receiving.{callOf, verdictOf}
 use Rattle.arrivals.proofs.Tables.{left-knows, left-decode}
 use Rattle.arrivals.proofs.Endings.{originator-is, leaves-by, refused-left, verdict-leaves}
-use Rattle.echoes.proofs.Echoes.{rows-held, full-cells, full-way, left, echo-cells, echo-way, echo-kept}
+use Rattle.arrivals.proofs.Rows.{rows-held}
+use Rattle.echoes.proofs.Echoes.{full-cells, full-way, left, echo-cells, echo-way, echo-kept}
 use borrow.Author.Needs.{needs}
 use Rattle.echoes.proofs.take_echo.Statement.{statement}
 use Rattle.echoes.proofs.take_echo.Tie as tie

@@ -6,7 +6,7 @@ use Rattle.lists.specs.Keyed.{hasKey}
 use Rattle.cells.specs.declared.Found.{Found}
 use Rattle.originators.specs.Originators.{RecordFound}
 use Rattle.arrivals.specs.Receiving.{Decides}
-use Rattle.echoes.proofs.Echoes.{rows-held, rows-are}
+use Rattle.arrivals.proofs.Rows.{rows-held, rows-are}
 use Rattle.relaying.proofs.decide.Statement.{statement}
 use Rattle.relaying.proofs.decide.Tie as tie
 
