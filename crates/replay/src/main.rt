@@ -1,4 +1,5 @@
 // Reads a script of calls on standard input, makes them in order on one table, and prints every answer.
+mod calls;
 mod session;
 
 use crate::session::Session;

@@ -1,6 +1,6 @@
 // Lines: put together from the pieces that are read, and each answered.
+use crate::calls::make_call;
 use answers::put_one;
-use calls::make_call;
 use libc::STDOUT_FILENO;
 use lines::gather;
 use lines::names::Call;

@@ -1,8 +1,8 @@
 use mathlib.Core.Path.{sym}
 use lib.Seq.{length-take-le}
 use native.Mathlib.Omega.{arith}
-use Rattle.calls.proofs.room.Statement.{statement}
-use Rattle.calls.proofs.room.Tie as tie
+use Rattle.replay.proofs.calls.room.Statement.{statement}
+use Rattle.replay.proofs.calls.room.Tie as tie
 
 returns : tie.Need-returns
 returns c = (omega arith, sym (length-take-le _ _ (omega arith)))
