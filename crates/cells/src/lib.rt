@@ -6,6 +6,9 @@ ghost use lib.ListN.{length, take, drop};
 ghost use Rattle.cells.specs.Area.{zeros, written, movedUp, putIn, takenOut, allZero, column, rise};
 ghost use Rattle.cells.specs.Find.{Sorted, FoundIn};
 
+// How many cells a pair takes: a key and what stands under it.
+pub const PAIR: usize = 2;
+
 // Where a key stands among rows that rise by their keys, or the place where its row would go.
 pub enum Found {
     At(usize),

@@ -25,7 +25,8 @@ use Rattle.rules.proofs.Counting.{advance-inside}
 use Rattle.record.specs.Record.{addressAt, currentAt, timeAt, lastTtlAt, linksAt, bestAt, linksOf, encodeRecord, decodeRecord, Held}
 use Rattle.record.proofs.Routes.{links-sorted}
 use Rattle.counting.specs.Counting.{ogm, Counted}
-use Rattle.links.specs.Links.{Links, moved, stays, chosen, scratchCells, Built, Recounted}
+use Rattle.best_link.specs.BestLink.{Links, moved, chosen}
+use Rattle.links.specs.Links.{stays, scratchCells, Built, Recounted}
 use Rattle.links.proofs.Cells.{cellsOf}
 use Rattle.links.proofs.Places.{mark-has}
 

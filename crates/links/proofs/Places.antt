@@ -31,7 +31,8 @@ use Rattle.rules.specs.Settings.{Config, linkCells}
 use Rattle.rules.specs.Rules.{notHigher}
 use Rattle.rules.specs.Table.{marksAt}
 use Rattle.record.proofs.Routes.{marks-within, marks-found, marks-missing}
-use Rattle.links.specs.Links.{Links, moved, stays, yields, chosen, Located, Built, Arranged, Recounted}
+use Rattle.best_link.specs.BestLink.{Links, moved, yields, chosen}
+use Rattle.links.specs.Links.{stays, Located, Built, Arranged, Recounted}
 
 -- ---- what a search found
 

@@ -1,4 +1,4 @@
--- Names for the parts of the rules' `settle`, and what the steps of counting leave of a record's links. This link is the one that the message came by.
+-- A name for a part of the rules' `settle`, and what the steps of counting leave of a record's links. This link is the one that the message came by.
 use Prim.Native.Nat.{ℕ, _+_, _*_, _≤_}
 use mathlib.Core.Path.{_≡_}
 use mathlib.Core.Bool.{Bool, cond, _||_}
@@ -11,29 +11,14 @@ use Rattle.cells.specs.Area.{fit, zeros, flat}
 use Rattle.cells.specs.Pairs.{pairRow, pairsOf}
 use Rattle.window.specs.Window.{shift, mark, count, hasMark}
 use Rattle.rules.specs.Settings.{Config, linkMost, linkCells}
-use Rattle.rules.specs.Rules.{notHigher}
-use Rattle.rules.specs.Table.{marksAt, isHighest}
+use Rattle.rules.specs.Table.{marksAt}
+use Rattle.best_link.specs.BestLink.{Links, chosen}
 
--- ---- parts of the rules
-
-abbrev pub Links : Type 0
-Links = List (ℕ × ℕ)
-
--- the first n links of a part, once current has moved up by d
-abbrev pub moved : (W d n : ℕ) → List ℕ → Links
-moved W d n part = mapValues (shift W d) (pairsOf n part)
+-- ---- part of the rules
 
 -- a link has a mark or is best
 abbrev pub stays : (best : ℕ) → ℕ × ℕ → Bool
 stays b e = hasMark (e .1) || eqb (e .0) b
-
--- a link is this one, or has no higher count than `high`
-abbrev pub yields : Config → (key high : ℕ) → ℕ × ℕ → Bool
-yields κ k high e = eqb (e .0) k || notHigher κ (count (e .1)) high
-
--- best, once this link has the marks v
-abbrev pub chosen : Config → (key v best : ℕ) → Links → ℕ
-chosen κ k v b ls = cond (isHighest κ k v ls) k b
 
 -- ---- what the steps leave
 

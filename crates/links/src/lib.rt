@@ -1,37 +1,29 @@
-// The links of one originator while a message is counted: shifted, marked on this link, kept or dropped, and the best one chosen.
+// The links of one originator while a message is counted: shifted, marked on this link, and kept or dropped.
 // This link is the one that the message came by, and `key` its pair of neighbour address and interface. `w` is the window size,
 // and `d` how far current moves up: 0 where the window stays, so that every link's marks are shifted by d and none is asked whether they move.
+use best_link::choose;
 use cells::Found;
 use cells::find;
 use record::LINK;
-use window::count;
 use window::mark;
 use window::shift;
 ghost use mathlib.Core.Path.{_≡_};
 ghost use mathlib.Core.List.{_∷_, _++_};
 ghost use Prim.Native.Nat.{_+_, _*_, _≤_, _<_};
-ghost use lib.Dec.{eqb};
 ghost use lib.ListN.{length};
 ghost use Rattle.lists.specs.Lists.{keep};
 ghost use Rattle.cells.specs.Find.{Sorted};
 ghost use Rattle.cells.specs.Pairs.{pairsOf};
-ghost use Rattle.rules.specs.Settings.{Config, windowMost, linkMost, linkCells};
-ghost use Rattle.rules.specs.Table.{isHighest};
+ghost use Rattle.rules.specs.Settings.{windowMost, linkMost, linkCells};
+ghost use Rattle.best_link.specs.BestLink.{Links, moved};
 ghost use Rattle.links.specs.Links as L;
-ghost use Rattle.links.specs.Links.{Links, Blank, Located, Built, Arranged, Recounted};
+ghost use Rattle.links.specs.Links.{Blank, Located, Built, Arranged, Recounted};
 
 // Whether a link has a mark or is best.
 fn stays(best: u64, key: u64, marks: u64) -> bool
     ensures { λ r. ⌜ r ≡ L.stays best (key, marks) ⌝ }
 {
     (0 < marks) | (key == best)
-}
-
-// Whether a link is this one, or has no higher count than `high`.
-fn yields(this: u64, high: u32, key: u64, marks: u64) -> bool
-    ensures { λ r. ⌜ ((κ : Config) → r ≡ L.yields κ this high (key, marks)) ⌝ }
-{
-    (key == this) | (count(marks) <= high)
 }
 
 // Writes a link at place m.
@@ -47,7 +39,7 @@ pub fn push(out: &mut [u64], m: usize, key: u64, marks: u64)
 // Writes, from place m on, those of n links that keep their place once current has moved up; answers how many are written then.
 fn keep_links(out: &mut [u64], m: usize, part: &[u64], n: usize, w: u64, d: u64, best: u64) -> usize
     requires { ⌜ (n * linkCells ≤ length (now part)) × ((m + n) * linkCells ≤ length (now out)) × (1 ≤ w) × (w ≤ windowMost) ⌝ }
-    ensures { λ r. ⌜ (r ≤ m + n) × ((rest goal : Links) → Built (now (out .entry)) m (keep (L.stays best) (L.moved w d n (now (part .entry))) ++ rest) goal → Built (now (out .exit)) r rest goal) ⌝ }
+    ensures { λ r. ⌜ (r ≤ m + n) × ((rest goal : Links) → Built (now (out .entry)) m (keep (L.stays best) (moved w d n (now (part .entry))) ++ rest) goal → Built (now (out .exit)) r rest goal) ⌝ }
 {
     let mut k = m;
     let mut at = 0;
@@ -63,38 +55,6 @@ fn keep_links(out: &mut [u64], m: usize, part: &[u64], n: usize, w: u64, d: u64,
         left -= 1;
     }
     k
-}
-
-// The link with the highest count once current has moved up, where this one has these marks: this one if no other has a higher count.
-fn highest(part: &[u64], n: usize, w: u64, d: u64, key: u64, marks: u64) -> u64
-    requires { ⌜ (n * linkCells ≤ length (now part)) × (1 ≤ w) × (w ≤ windowMost) ⌝ }
-    ensures { λ r. ⌜ ((κ : Config) → eqb r key ≡ isHighest κ key marks (L.moved w d n (now (part .entry)))) ⌝ }
-{
-    let mut top = key;
-    let mut high = count(marks);
-    let mut at = 0;
-    let mut left = n;
-    while 0 < left {
-        let other = part[at];
-        let moved = shift(w, d, part[at + 1]);
-        if !yields(key, high, other, moved) {
-            top = other;
-            high = count(moved);
-        }
-        at += LINK;
-        left -= 1;
-    }
-    top
-}
-
-// Best once this link has these marks: this link where no other has a higher count. Otherwise best stays, even with count 0, and also
-// where it isn't the highest.
-fn choose(part: &[u64], n: usize, w: u64, d: u64, key: u64, marks: u64, best: u64) -> u64
-    requires { ⌜ (n * linkCells ≤ length (now part)) × (1 ≤ w) × (w ≤ windowMost) ⌝ }
-    ensures { λ r. ⌜ ((κ : Config) → r ≡ L.chosen κ key marks best (L.moved w d n (now (part .entry)))) ⌝ }
-{
-    let top = highest(part, n, w, d, key, marks);
-    if top == key { key } else { best }
 }
 
 // How many links counting leaves, and the best one's key.
@@ -118,7 +78,7 @@ fn arrange(
 ) -> Done
     requires { ⌜ (n * linkCells ≤ length (now part)) × (n ≤ linkMost) × (low ≤ high) × (high ≤ n) × (1 ≤ w) × (w ≤ windowMost) ⌝ }
     requires { ⌜ Blank (now out) ⌝ }
-    ensures { λ r. ⌜ Arranged (now (out .exit)) (r .links) (r .best) low high key marks best (L.moved w d n (now (part .entry))) ⌝ }
+    ensures { λ r. ⌜ Arranged (now (out .exit)) (r .links) (r .best) low high key marks best (moved w d n (now (part .entry))) ⌝ }
 {
     let b = choose(part, n, w, d, key, marks, best);
     let m = keep_links(out, 0, part, low, w, d, b);
@@ -168,7 +128,7 @@ pub fn recount(
 ) -> Done
     requires { ⌜ Sorted linkCells n (now part) × (n ≤ linkMost) × (1 ≤ w) × (w ≤ windowMost) × (k < windowMost) ⌝ }
     requires { ⌜ Blank (now out) ⌝ }
-    ensures { λ r. ⌜ Recounted (now (out .exit)) (r .links) (r .best) key k best (L.moved w d n (now (part .entry))) ⌝ }
+    ensures { λ r. ⌜ Recounted (now (out .exit)) (r .links) (r .best) key k best (moved w d n (now (part .entry))) ⌝ }
 {
     let spot = locate(part, n, key);
     let marks = mark(shift(w, d, spot.marks), k);

@@ -1,5 +1,6 @@
 // The neighbour rows in their area of cells: found, recorded and dropped.
 use cells::Found;
+use cells::PAIR;
 use cells::clear;
 use cells::find;
 use cells::move_down;
@@ -18,7 +19,7 @@ ghost use Rattle.rules.specs.Settings.{neighbourMost};
 ghost use Rattle.neighbours.specs.Neighbours.{RowsHeld, EchoTaken, staysAfter};
 
 // The cells of a row: a link, and the number recorded for it. How many rows there is room for.
-const ROW: usize = 2;
+const ROW: usize = PAIR;
 
 const ROOM: usize = 32;
 

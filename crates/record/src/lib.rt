@@ -1,5 +1,6 @@
 // One originator's record in its cells: the check of a record, and the route that it gives.
 use cells::Found;
+use cells::PAIR;
 use cells::all_zero;
 use cells::find;
 use rules::Route;
@@ -34,7 +35,7 @@ pub const BEST: usize = 5;
 // The cells before the links, those of a link, the links that there is room for, and the cells of a record.
 pub const FIELDS: usize = 6;
 
-pub const LINK: usize = 2;
+pub const LINK: usize = PAIR;
 
 pub const ROOM: u64 = 8;
 

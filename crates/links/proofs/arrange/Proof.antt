@@ -6,7 +6,8 @@ use lib.ListN.{length, take, drop}
 use Rattle.lists.specs.Lists.{keep}
 use Rattle.cells.proofs.Lent.{tail-length}
 use Rattle.rules.specs.Settings.{linkCells}
-use Rattle.links.specs.Links.{moved, stays}
+use Rattle.best_link.specs.BestLink.{moved}
+use Rattle.links.specs.Links.{stays}
 use Rattle.links.proofs.Cells.{arrange-start}
 use Rattle.links.proofs.arrange.Statement.{statement}
 use Rattle.links.proofs.arrange.Tie as tie

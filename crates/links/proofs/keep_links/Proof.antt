@@ -7,8 +7,10 @@ use native.Mathlib.Omega.{arith}
 use lib.ListN.{length, drop}
 use Rattle.lists.specs.Lists.{keep}
 use Rattle.rules.specs.Settings.{linkCells}
-use Rattle.links.specs.Links.{Links, moved, stays, Built}
-use Rattle.links.proofs.Cells.{built-along, keep-one, moved-none}
+use Rattle.best_link.specs.BestLink.{Links, moved}
+use Rattle.links.specs.Links.{stays, Built}
+use Rattle.best_link.proofs.Leading.{moved-none}
+use Rattle.links.proofs.Cells.{built-along, keep-one}
 use Rattle.links.proofs.keep_links.Statement.{statement}
 use Rattle.links.proofs.keep_links.Tie as tie
 

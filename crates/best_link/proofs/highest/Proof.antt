@@ -8,10 +8,10 @@ use lib.ListN.{length, drop}
 use borrow.Author.Tests.{not-true, not-false}
 use Rattle.rules.specs.Settings.{Config, linkCells}
 use Rattle.rules.specs.Table.{isHighest}
-use Rattle.links.specs.Links.{moved}
-use Rattle.links.proofs.Cells.{Leading, leading-start, leading-turn, leading-end, moved-none}
-use Rattle.links.proofs.highest.Statement.{statement}
-use Rattle.links.proofs.highest.Tie as tie
+use Rattle.best_link.specs.BestLink.{moved}
+use Rattle.best_link.proofs.Leading.{Leading, leading-start, leading-turn, leading-end, moved-none}
+use Rattle.best_link.proofs.highest.Statement.{statement}
+use Rattle.best_link.proofs.highest.Tie as tie
 
 abbrev Inv-loop : tie.InvT-loop
 Inv-loop part n w d key marks top₀ high₀ at₀ left₀ top high at left =

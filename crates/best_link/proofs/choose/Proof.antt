@@ -2,8 +2,8 @@ use borrow.Author.Needs.{needs}
 use mathlib.Core.Path.{sym, ap, _∙_}
 use mathlib.Core.Bool.{Bool, cond}
 use borrow.Author.Tests.{eq-eqb, ne-eqb}
-use Rattle.links.proofs.choose.Statement.{statement}
-use Rattle.links.proofs.choose.Tie as tie
+use Rattle.best_link.proofs.choose.Statement.{statement}
+use Rattle.best_link.proofs.choose.Tie as tie
 
 returns : tie.Need-returns
 returns c κ =

@@ -4,8 +4,8 @@ use Prim.Native.Nat.{ℕ}
 use mathlib.Core.Bool.{_||_}
 use lib.Dec.{eqb, leb}
 use Rattle.rules.specs.Rules.{notHigher}
-use Rattle.links.proofs.yields.Statement.{statement}
-use Rattle.links.proofs.yields.Tie as tie
+use Rattle.best_link.proofs.yields.Statement.{statement}
+use Rattle.best_link.proofs.yields.Tie as tie
 
 returns : tie.Need-returns
 unfolding notHigher

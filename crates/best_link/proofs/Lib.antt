@@ -1,0 +1,2 @@
+-- The search for the highest link, turn by turn.
+pub mod Leading

@@ -1,0 +1,26 @@
+-- Names for the parts of the rules' `settle` that choose the best link. This link is the one that the message came by.
+use Prim.Native.Nat.{ℕ}
+use mathlib.Core.Bool.{Bool, cond, _||_}
+use mathlib.Core.List.{List}
+use lib.Dec.{eqb}
+use Rattle.lists.specs.Keyed.{mapValues}
+use Rattle.cells.specs.Pairs.{pairsOf}
+use Rattle.window.specs.Window.{shift, count}
+use Rattle.rules.specs.Settings.{Config}
+use Rattle.rules.specs.Rules.{notHigher}
+use Rattle.rules.specs.Table.{isHighest}
+
+abbrev pub Links : Type 0
+Links = List (ℕ × ℕ)
+
+-- the first n links of a part, once current has moved up by d
+abbrev pub moved : (W d n : ℕ) → List ℕ → Links
+moved W d n part = mapValues (shift W d) (pairsOf n part)
+
+-- a link is this one, or has no higher count than `high`
+abbrev pub yields : Config → (key high : ℕ) → ℕ × ℕ → Bool
+yields κ k high e = eqb (e .0) k || notHigher κ (count (e .1)) high
+
+-- best, once this link has the marks v
+abbrev pub chosen : Config → (key v best : ℕ) → Links → ℕ
+chosen κ k v b ls = cond (isHighest κ k v ls) k b

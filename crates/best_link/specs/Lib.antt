@@ -1,0 +1,2 @@
+-- Which link is best once a message is counted.
+pub mod BestLink
