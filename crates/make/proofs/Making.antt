@@ -25,7 +25,7 @@ use Rattle.rules.proofs.Config.{make-allowed}
 use Rattle.layout.specs.Layout.{neighboursFrom}
 use Rattle.layout.specs.Interfaces.{rowsWith, encodeInterface}
 use Rattle.layout.specs.Cells.{headOf, interfaceArea, encode, decode}
-use Rattle.table.specs.Check.{settingsTests, settingsOk}
+use Rattle.config.specs.Check.{settingsTests, settingsOk}
 use Rattle.layout.specs.Calls.{callOn}
 use Rattle.make.specs.Make.{makeArgs, freshHead, neededFor, noInterface}
 use Rattle.layout.proofs.Interfaces.{interface-wide}

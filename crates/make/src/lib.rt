@@ -1,14 +1,14 @@
 // Making a table in the cells that are lent.
 use cells::clear;
 use cells::write;
+use config::own_differ;
+use config::settings_ok;
 use layout::CAPACITY_MOST;
 use layout::INTERFACE_MOST;
 use layout::RECORDS_FROM;
 use record::WIDTH;
 use rules::Interface;
 use rules::Settings;
-use table::own_differ;
-use table::settings_ok;
 ghost use mathlib.Core.Path.{_≡_};
 ghost use mathlib.Core.Bool.{cond};
 ghost use Prim.Native.Nat.{_≤_};

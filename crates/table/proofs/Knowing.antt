@@ -24,7 +24,7 @@ use Rattle.layout.specs.Layout.{recordsAt, timeAt, recordsFrom, recordPart}
 use Rattle.layout.specs.Cells.{configIn, recordsIn, encode, decode, wellFormed}
 use Rattle.layout.specs.Facts.{Knows, recordAt}
 use Rattle.layout.proofs.Encoding.{holds, encode-wellFormed, encode-decode, cells-valid, records-ok}
-use Rattle.table.proofs.Checks.{head-from, head-sized}
+use Rattle.config.proofs.Checks.{head-from, head-sized}
 
 pub knows : (c : List ℕ) → wellFormed c ≡ true → Knows c
 knows c h = record { sized = head-sized c (head-from c h); valid = cells-valid c h; cells = encode-decode c h }

@@ -1,4 +1,4 @@
 pub mod Checks
-pub mod Own
+pub mod Limits
 pub mod Turns
 pub mod Knowing

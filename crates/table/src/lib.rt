@@ -1,143 +1,41 @@
 // The check of a whole table, which every call but make and packet check begins with.
 use cells::all_zero;
-use layout::BROADCAST;
-use layout::CAPACITY;
-use layout::CAPACITY_MOST;
-use layout::FIRST;
+use config::head_ok;
+use config::interfaces_ok;
 use layout::INTERFACE;
-use layout::INTERFACE_MOST;
 use layout::INTERFACES_FROM;
 use layout::LAST;
 use layout::NEIGHBOUR;
-use layout::NEIGHBOUR_MOST;
 use layout::NEIGHBOURS_FROM;
-use layout::OWN;
 use layout::OWN_0;
-use layout::OWN_1;
-use layout::OWN_2;
-use layout::OWN_3;
-use layout::PURGE;
-use layout::PURGE_MOST;
 use layout::RECORDS;
 use layout::RECORDS_FROM;
 use layout::ROWS;
 use layout::SENT;
 use layout::TIME;
 use layout::TIMEOUT;
-use layout::TIMEOUT_MOST;
 use layout::USED;
-use layout::VERSION;
-use layout::VERSION_MOST;
 use layout::WINDOW;
-use layout::WINDOW_MOST;
-use record::ADDRESSES;
 use record::INTERFACES;
 use record::Limits;
 use record::NUMBERS;
 use record::PAIRS;
 use record::WIDTH;
 use record::record_ok;
-use rules::Settings;
 use window::distance;
 ghost use mathlib.Core.Path.{_≡_};
-ghost use mathlib.Core.Bool.{cond, _&&_};
-ghost use mathlib.Core.List.{[], _∷_};
-ghost use Prim.Native.Nat.{ℕ, _+_, _*_, _≤_, _<_};
+ghost use mathlib.Core.Bool.{cond};
+ghost use Prim.Native.Nat.{ℕ, _*_, _≤_, _<_};
 ghost use lib.Dec.{ltb};
-ghost use lib.ListN.{length, take, drop, getD};
-ghost use Rattle.lists.specs.Lists.{and, all};
-ghost use Rattle.cells.specs.Area.{allZero, rowsOf};
-ghost use Rattle.rules.specs.Settings.{Config, differ, interfaceMost, interfaceCells, recordCells};
+ghost use lib.ListN.{length, getD};
+ghost use Rattle.lists.specs.Lists.{and};
+ghost use Rattle.rules.specs.Settings.{Config, interfaceMost, recordCells};
 ghost use Rattle.rules.specs.WellFormed.{rowTests};
 ghost use Rattle.record.specs.Limits.{Describes, Windowed};
 ghost use Rattle.layout.specs.Layout.{usedAt, timeAt, ownPlace};
 ghost use Rattle.layout.specs.Cells.{configIn, sendsIn, wellFormed};
-ghost use Rattle.table.specs.Check.{settingsOk, headOk, interfaceRowOk, interfacesOk, neighboursOk, recordRowsOk};
+ghost use Rattle.table.specs.Check.{neighboursOk, recordRowsOk};
 ghost use Rattle.layout.specs.Facts.{Sized, Numbered};
-
-// Whether the settings are allowed.
-pub fn settings_ok(s: Settings) -> bool
-    ensures { λ r. ⌜ r ≡ settingsOk s ⌝ }
-{
-    (s.version <= VERSION_MOST)
-        & (((1 <= s.window) & (s.window <= WINDOW_MOST))
-            & (((1 <= s.timeout) & (s.timeout <= TIMEOUT_MOST))
-                & (((1 <= s.purge) & (s.purge <= PURGE_MOST))
-                    & ((1 <= s.capacity) & (s.capacity <= CAPACITY_MOST)))))
-}
-
-// Whether the first `used` of four addresses differ.
-pub fn own_differ(a: u64, b: u64, c: u64, d: u64, used: u64) -> bool
-    requires { ⌜ (1 ≤ used) × (used ≤ interfaceMost) ⌝ }
-    ensures { λ r. ⌜ r ≡ differ (take used (a ∷ b ∷ c ∷ d ∷ [])) ⌝ }
-{
-    ((used < 2) | (a != b))
-        & (((used < 3) | ((a != c) & (b != c))) & ((used < 4) | ((a != d) & ((b != d) & (c != d)))))
-}
-
-// Whether the head is allowed, and the cells are as many as the capacity needs.
-fn head_ok(cells: &[u64]) -> bool
-    ensures { λ r. ⌜ r ≡ headOk (now (cells .entry)) ⌝ }
-{
-    if cells.len() < RECORDS_FROM {
-        return false;
-    }
-    let s = Settings {
-        version: cells[VERSION],
-        window: cells[WINDOW],
-        timeout: cells[TIMEOUT],
-        purge: cells[PURGE],
-        capacity: cells[CAPACITY],
-    };
-    if !settings_ok(s) {
-        return false;
-    }
-    ((1 <= cells[USED]) & (cells[USED] <= INTERFACE_MOST))
-        & ((cells[ROWS] <= NEIGHBOUR_MOST)
-            & ((cells[RECORDS] <= s.capacity)
-                & (cells.len() == RECORDS_FROM + s.capacity as usize * WIDTH)))
-}
-
-// Whether an interface row is in its ranges.
-fn interface_row_ok(row: &[u64]) -> bool
-    requires { ⌜ length (now row) ≡ interfaceCells ⌝ }
-    ensures { λ r. ⌜ r ≡ interfaceRowOk (now (row .entry)) ⌝ }
-{
-    let sent = row[SENT];
-    let last = row[LAST];
-    (row[OWN] < ADDRESSES)
-        & ((row[BROADCAST] < ADDRESSES)
-            & ((row[FIRST] < NUMBERS)
-                & ((sent <= 1) & ((last < NUMBERS) & ((sent == 1) | (last == 0))))))
-}
-
-// Whether the rows of the interfaces in use are in their ranges, and the others zero.
-fn interface_rows_ok(part: &[u64], used: usize) -> bool
-    requires { ⌜ used * interfaceCells ≤ length (now part) ⌝ }
-    ensures { λ r. ⌜ r ≡ all interfaceRowOk (rowsOf interfaceCells used (now (part .entry))) && allZero (drop (used * interfaceCells) (now (part .entry))) ⌝ }
-{
-    let mut at = 0;
-    let mut left = used;
-    while 0 < left {
-        let end = at + INTERFACE;
-        if !interface_row_ok(&part[at..end]) {
-            break;
-        }
-        at = end;
-        left -= 1;
-    }
-    (left == 0) & all_zero(&part[at..])
-}
-
-// Whether the interface rows are a table's: in their ranges, the own addresses in use different, the unused rows zero.
-fn interfaces_ok(cells: &[u64]) -> bool
-    requires { ⌜ Sized (now cells) ⌝ }
-    ensures { λ r. ⌜ r ≡ interfacesOk (now (cells .entry)) ⌝ }
-{
-    let used = cells[USED];
-    interface_rows_ok(&cells[INTERFACES_FROM..NEIGHBOURS_FROM], used as usize)
-        & own_differ(cells[OWN_0], cells[OWN_1], cells[OWN_2], cells[OWN_3], used)
-}
 
 // Whether a neighbour row names an interface in use that has sent, and its distance is below the link timeout.
 fn neighbour_ok(cells: &[u64], pair: u64, number: u64) -> bool

@@ -9,9 +9,9 @@ use borrow.Author.Tests.{leb-true, not-true, not-false}
 use Rattle.lists.proofs.Tests.{and-left, and-right}
 use Rattle.cells.proofs.Bools.{fails}
 use Rattle.rules.specs.Settings.{MakeArgs, makeAllowed, configOf, capacityMost, interfaceMost, within, differ, ownAddresses}
-use Rattle.table.specs.Check.{settingsOk}
+use Rattle.config.specs.Check.{settingsOk}
 use Rattle.make.specs.Make.{makeArgs, noInterface}
-use Rattle.table.proofs.Checks.{capacity-few}
+use Rattle.config.proofs.Checks.{capacity-few}
 use Rattle.make.proofs.Making.{four, in-range, four-in-range, own-four, allowed-settings, allowed-used, allowed-differ, size-decides}
 use Rattle.make.proofs.make_allowed.Statement.{statement}
 use Rattle.make.proofs.make_allowed.Tie as tie

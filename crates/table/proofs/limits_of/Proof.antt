@@ -2,7 +2,7 @@ use borrow.Author.Needs.{needs}
 use mathlib.Core.Path.{refl}
 use mathlib.Core.List.{[], _∷_}
 use lib.ListN.{getD}
-use Rattle.table.proofs.Own.{describes}
+use Rattle.table.proofs.Limits.{describes}
 use Rattle.table.proofs.limits_of.Statement.{statement}
 use Rattle.table.proofs.limits_of.Tie as tie
 

@@ -9,10 +9,12 @@ use Rattle.cells.proofs.Bools.{fails}
 use Rattle.cells.proofs.Lent.{tail-is, tail-length}
 use Rattle.layout.specs.Layout.{recordsFrom, recordsAt, timeAt}
 use Rattle.layout.specs.Cells.{configIn, wellFormed}
-use Rattle.table.specs.Check.{headOk, interfacesOk, neighboursOk, recordRowsOk, recordsOk}
+use Rattle.config.specs.Check.{headOk, interfacesOk}
+use Rattle.config.proofs.Checks.{head-from, interfaces-from, head-sized}
+use Rattle.config.proofs.Turns.{numbered}
+use Rattle.table.specs.Check.{neighboursOk, recordRowsOk, recordsOk}
 use Rattle.layout.specs.Facts.{Sized, Numbered}
-use Rattle.table.proofs.Turns.{numbered}
-use Rattle.table.proofs.Checks.{head-from, interfaces-from, neighbours-from, head-sized, last-test}
+use Rattle.table.proofs.Checks.{neighbours-from, last-test}
 use Rattle.table.proofs.well_formed.Statement.{statement}
 use Rattle.table.proofs.well_formed.Tie as tie
 

@@ -8,10 +8,10 @@ use borrow.Author.Tests.{not-true, not-false}
 use Rattle.rules.specs.Settings.{capacityMost}
 use Rattle.layout.specs.Layout.{capacityAt}
 use Rattle.layout.specs.Cells.{configIn}
-use Rattle.table.specs.Check.{settingsOk}
-use Rattle.table.proofs.Checks.{capacity-few, head-by, head-short}
-use Rattle.table.proofs.head_ok.Statement.{statement}
-use Rattle.table.proofs.head_ok.Tie as tie
+use Rattle.config.specs.Check.{settingsOk}
+use Rattle.config.proofs.Checks.{capacity-few, head-by, head-short}
+use Rattle.config.proofs.head_ok.Statement.{statement}
+use Rattle.config.proofs.head_ok.Tie as tie
 
 -- the settings are allowed
 allows : (c : tie.Else2) → settingsOk (configIn (c .before .before .before .before .before .before .before .before .before .args .cells .now) .settings) ≡ true

@@ -10,10 +10,10 @@ use Rattle.lists.specs.Lists.{all}
 use Rattle.cells.specs.Area.{allZero, rowsOf}
 use Rattle.cells.proofs.Lent.{tail-is}
 use Rattle.rules.specs.Settings.{interfaceCells}
-use Rattle.table.specs.Check.{interfaceRowOk}
-use Rattle.table.proofs.Turns.{interfaces-next, interfaces-stop, interfaces-end, first-then}
-use Rattle.table.proofs.interface_rows_ok.Statement.{statement}
-use Rattle.table.proofs.interface_rows_ok.Tie as tie
+use Rattle.config.specs.Check.{interfaceRowOk}
+use Rattle.config.proofs.Turns.{interfaces-next, interfaces-stop, interfaces-end, first-then}
+use Rattle.config.proofs.interface_rows_ok.Statement.{statement}
+use Rattle.config.proofs.interface_rows_ok.Tie as tie
 
 abbrev Inv-loop : tie.InvT-loop
 Inv-loop part used at₀ left₀ at left = (at + left * interfaceCells ≡ used * interfaceCells) × (all interfaceRowOk (rowsOf interfaceCells left (drop at part)) ≡ all interfaceRowOk (rowsOf interfaceCells used part))

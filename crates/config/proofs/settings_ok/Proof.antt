@@ -1,6 +1,6 @@
-use Rattle.table.proofs.Checks.{settings-tests}
-use Rattle.table.proofs.settings_ok.Statement.{statement}
-use Rattle.table.proofs.settings_ok.Tie as tie
+use Rattle.config.proofs.Checks.{settings-tests}
+use Rattle.config.proofs.settings_ok.Statement.{statement}
+use Rattle.config.proofs.settings_ok.Tie as tie
 
 returns : tie.Need-returns
 returns c = settings-tests (c .before .before .before .before .before .before .before .before .before .args .s)

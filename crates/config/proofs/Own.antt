@@ -1,25 +1,22 @@
 -- The own addresses in use, of the four that there is room for. Assumes nothing.
 use mathlib.Core.Path.{_≡_, refl, sym, ap, _∙_}
 use mathlib.Core.List.{List, [], _∷_, map}
-use mathlib.Core.Bool.{Bool, true, false, cond, _&&_, _||_, not}
+use mathlib.Core.Bool.{Bool, true, false, _&&_, _||_, not}
 use Prim.Native.Nat.{ℕ, zero, suc, _+_, _*_, _≤_, _<_}
 use native.Mathlib.Omega.{arith}
 use lib.Dec.{ltb, eqb}
 use lib.ListN.{take, getD}
-use Rattle.lists.specs.Lists.{elem, all}
+use Rattle.lists.specs.Lists.{all}
 use Rattle.cells.specs.Area.{keyOf, rowsOf, column, allZero}
 use Rattle.cells.proofs.Keys.{getD-column}
 use Rattle.cells.proofs.Trips.{rows-fewer, map-take}
 use Rattle.rules.specs.declared.Interface.{Interface}
 use Rattle.rules.specs.Settings.{differ, ownAddresses, interfaceMost, interfaceCells}
-use Rattle.record.specs.declared.Limits.{Limits}
-use Rattle.record.specs.Limits.{Describes, ownOf}
-use Rattle.layout.specs.Layout.{usedAt, windowAt, timeAt, ownPlace, interfacePart}
+use Rattle.layout.specs.Layout.{usedAt, ownPlace, interfacePart}
 use Rattle.layout.specs.Interfaces.{InterfaceRow, decodeInterface}
 use Rattle.layout.specs.Cells.{configIn, unusedInterfaces}
-use Rattle.table.specs.Check.{interfaceRowOk, interfacesOk}
+use Rattle.config.specs.Check.{interfaceRowOk, interfacesOk}
 use Rattle.layout.proofs.Parts.{interface-cell}
-use Rattle.layout.proofs.Encoding.{used-length}
 
 abbrev pub ownIn : List ℕ → List ℕ
 ownIn c = getD c (ownPlace 0) 0 ∷ getD c (ownPlace 1) 0 ∷ getD c (ownPlace 2) 0 ∷ getD c (ownPlace 3) 0 ∷ []
@@ -41,27 +38,6 @@ own-used c h =
     own-keys : (l : List (List ℕ)) → map (λ (i : Interface). i .own) (map (λ (r : InterfaceRow). r .0) (map decodeInterface l)) ≡ map keyOf l
     own-keys [] = refl
     own-keys (x ∷ l) = ap (λ (t : List ℕ). keyOf x ∷ t) (own-keys l)
-
--- the first again for each that is not in use: the same addresses
-same-1 : (a : Bool) → a || (a || (a || (a || false))) ≡ a || false
-same-1 true = refl
-same-1 false = refl
-
-same-2 : (a b : Bool) → a || (b || (a || (a || false))) ≡ a || (b || false)
-same-2 true b = refl
-same-2 false b = refl
-
-same-3 : (a b c : Bool) → a || (b || (c || (a || false))) ≡ a || (b || (c || false))
-same-3 true b c = refl
-same-3 false b c = refl
-
-pub own-again : (n : ℕ) → 1 ≤ n → n ≤ interfaceMost → (x y z w a : ℕ) → elem a (x ∷ cond (ltb 1 n) y x ∷ cond (ltb 2 n) z x ∷ cond (ltb 3 n) w x ∷ []) ≡ elem a (take n (x ∷ y ∷ z ∷ w ∷ []))
-own-again zero l h x y z w a = absurd (omega arith)
-own-again (suc zero) l h x y z w a = same-1 (eqb a x)
-own-again (suc (suc zero)) l h x y z w a = same-2 (eqb a x) (eqb a y)
-own-again (suc (suc (suc zero))) l h x y z w a = same-3 (eqb a x) (eqb a y) (eqb a z)
-own-again (suc (suc (suc (suc zero)))) l h x y z w a = refl
-own-again (suc (suc (suc (suc (suc n))))) l h x y z w a = absurd (omega arith)
 
 -- ---- they differ
 
@@ -98,15 +74,3 @@ pub interfaces-are : (c : List ℕ) → getD c usedAt 0 ≤ interfaceMost → (r
     → r ≡ all interfaceRowOk (rowsOf interfaceCells (getD c usedAt 0) (interfacePart c)) && allZero (unusedInterfaces c) → d ≡ differ (take (getD c usedAt 0) (ownIn c)) → r && d ≡ interfacesOk c
 unfolding interfacesOk
 interfaces-are c h r d er ed = λ i. er i && (ed ∙ ap differ (sym (own-used c h))) i
-
--- ---- what the records are held to
-
-pub describes : (c : List ℕ) → 1 ≤ getD c usedAt 0 → getD c usedAt 0 ≤ interfaceMost → (l : Limits) → l .window ≡ getD c windowAt 0 → l .used ≡ getD c usedAt 0 → l .time ≡ getD c timeAt 0
-    → ownOf l ≡ getD c (ownPlace 0) 0 ∷ cond (ltb 1 (getD c usedAt 0)) (getD c (ownPlace 1) 0) (getD c (ownPlace 0) 0) ∷ cond (ltb 2 (getD c usedAt 0)) (getD c (ownPlace 2) 0) (getD c (ownPlace 0) 0) ∷ cond (ltb 3 (getD c usedAt 0)) (getD c (ownPlace 3) 0) (getD c (ownPlace 0) 0) ∷ []
-    → Describes (configIn c) (getD c timeAt 0) l
-describes c lo hi l ew eu et eo = record {
-  window = ew;
-  used = eu ∙ sym (used-length c);
-  time = et;
-  own = λ a. ap (elem a) eo ∙ own-again (getD c usedAt 0) lo hi (getD c (ownPlace 0) 0) (getD c (ownPlace 1) 0) (getD c (ownPlace 2) 0) (getD c (ownPlace 3) 0) a ∙ ap (elem a) (sym (own-used c hi));
-}

@@ -1,7 +1,7 @@
 use native.Mathlib.Omega.{arith}
-use Rattle.table.proofs.Own.{differ-is}
-use Rattle.table.proofs.own_differ.Statement.{statement}
-use Rattle.table.proofs.own_differ.Tie as tie
+use Rattle.config.proofs.Own.{differ-is}
+use Rattle.config.proofs.own_differ.Statement.{statement}
+use Rattle.config.proofs.own_differ.Tie as tie
 
 returns : tie.Need-returns
 returns c = differ-is (c .args .used) (omega arith) (omega arith) (c .args .a) (c .args .b) (c .args .c) (c .args .d)

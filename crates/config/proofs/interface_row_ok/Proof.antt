@@ -3,8 +3,8 @@ use mathlib.Core.Path.{sym}
 use mathlib.Core.Bool.{_&&_, _||_, and-true}
 use lib.Dec.{leb, ltb, eqb}
 use lib.ListN.{getD}
-use Rattle.table.proofs.interface_row_ok.Statement.{statement}
-use Rattle.table.proofs.interface_row_ok.Tie as tie
+use Rattle.config.proofs.interface_row_ok.Statement.{statement}
+use Rattle.config.proofs.interface_row_ok.Tie as tie
 
 returns : tie.Need-returns
 returns c =

@@ -1,7 +1,7 @@
 use borrow.Author.Needs.{needs}
-use Rattle.table.proofs.Own.{interfaces-are}
-use Rattle.table.proofs.interfaces_ok.Statement.{statement}
-use Rattle.table.proofs.interfaces_ok.Tie as tie
+use Rattle.config.proofs.Own.{interfaces-are}
+use Rattle.config.proofs.interfaces_ok.Statement.{statement}
+use Rattle.config.proofs.interfaces_ok.Tie as tie
 
 returns : tie.Need-returns
 returns c =

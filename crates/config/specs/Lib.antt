@@ -1,0 +1,2 @@
+-- Settings and interface rows.
+pub mod Check
