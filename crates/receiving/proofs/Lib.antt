@@ -1,3 +1,2 @@
--- Receiving by the rules: its refusals, and the call.
-pub mod Arguments
+-- Receiving by the rules: the call.
 pub mod Call

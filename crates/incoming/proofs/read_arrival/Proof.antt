@@ -1,26 +1,14 @@
--- `receiving::read_arrival` meets its contract. Assumes nothing.
+-- `incoming::read_arrival` meets its contract. Assumes nothing.
 use mathlib.Core.Path.{ap}
 use native.Mathlib.Omega.{arith}
 use denote.Ref.{now}
 use Rattle.wire.specs.declared.Header.{Header}
 use Rattle.rules.specs.Calls.{linkOf}
 use Rattle.arrivals.specs.declared.Arrival.{Arrival}
-use Rattle.receiving.proofs.Arguments.{typed-of}
+use Rattle.incoming.proofs.Arguments.{typed-of}
 use borrow.Author.Needs.{needs}
-use Rattle.receiving.proofs.read_arrival.Statement.{statement}
-use Rattle.receiving.proofs.read_arrival.Tie as tie
-use Rattle.receiving.proofs.read_arrival.Reads as reads
-use Rattle.receiving.proofs.read_arrival.Lts as lts
-use Rattle.packets.proofs.message.read.Reads as read-reads
-
-read-requires : tie.Need-read-requires
-read-requires c κs = search needs
-
-mul-t7 : tie.Need-mul-t7
-mul-t7 c = search needs
-
-add-t8 : tie.Need-add-t8
-add-t8 c = search needs
+use Rattle.incoming.proofs.read_arrival.Statement.{statement}
+use Rattle.incoming.proofs.read_arrival.Tie as tie
 
 returns : tie.Need-returns
 unfolding linkOf
@@ -41,4 +29,4 @@ returns c =
     )
 
 pub read-arrival-spec : {M : Type 1} → statement M
-read-arrival-spec = tie.close (tie.spec read-requires mul-t7 add-t8 returns)
+read-arrival-spec = tie.close (tie.spec (λ c κs. search needs) (λ c. search needs) (λ c. search needs) returns)

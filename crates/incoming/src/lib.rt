@@ -1,0 +1,85 @@
+// What is asked of an incoming packet before it is judged: its refusals, its message, and which addresses are this node's.
+use arrivals::Arrival;
+use layout::OWN_0;
+use layout::OWN_1;
+use layout::OWN_2;
+use layout::OWN_3;
+use layout::TIME;
+use layout::USED;
+use layout::VERSION;
+use packet_check::packet_fault;
+use packets::message::read;
+use record::INTERFACES;
+use wire::Fault;
+use wire::refusal;
+ghost use mathlib.Core.Path.{_≡_};
+ghost use mathlib.Core.Bool.{true};
+ghost use mathlib.Core.List.{List, map};
+ghost use Prim.Native.Nat.{ℕ, _≤_, _<_};
+ghost use lib.ListN.{length};
+ghost use Rattle.lists.specs.Lists.{elem};
+ghost use Rattle.wire.specs.Layout.{headerSize};
+ghost use Rattle.wire.specs.Check.{faultOf};
+ghost use Rattle.rules.specs.declared.Interface.{Interface};
+ghost use Rattle.rules.specs.Settings.{interfaceMost, interfaceCells};
+ghost use Rattle.rules.specs.Calls as C;
+ghost use Rattle.rules.specs.Rules as R;
+ghost use Rattle.rules.specs.WellFormed.{typed};
+ghost use Rattle.layout.specs.Cells.{decode};
+ghost use Rattle.layout.specs.Facts.{Knows};
+ghost use Rattle.arrivals.specs.Receiving.{argsOf, arrivalOf, IsFieldAt};
+
+// The refusals of a packet on a well-formed table, before those of its octets.
+const NOT_IN_USE: u64 = 2;
+
+const TIME_BEFORE: u64 = 3;
+
+const SHORT_OUTPUT: u64 = 4;
+
+// The message that a packet begins with, as it came from a sender.
+pub fn read_arrival(packet: &[u8], sender: u32, interface: u64, time: u64) -> Arrival
+    requires { ⌜ (headerSize ≤ length (now packet)) × (interface < interfaceMost) ⌝ }
+    ensures { λ r. ⌜ (r ≡ arrivalOf (now (packet .entry)) sender interface time) × ((o : List ℕ) → typed (C.receive (argsOf (now (packet .entry)) sender interface time o)) ≡ true) ⌝ }
+{
+    let h = read(packet);
+    Arrival {
+        sender,
+        interface,
+        link: sender as u64 * INTERFACES + interface,
+        time,
+        flags: h.flags,
+        ttl: h.ttl,
+        sequence: h.sequence,
+        originator: h.originator,
+    }
+}
+
+// What is refused before the packet is judged, with an output of `room` octets.
+pub fn receive_fault(cells: &[u64], packet: &[u8], interface: u64, time: u64, room: usize) -> Fault
+    requires { ⌜ Knows (now cells) ⌝ }
+    ensures { λ r. ⌜ ((a : ℕ) (o : List ℕ) → length o ≡ room → r ≡ faultOf (R.receiveFault (decode (now (cells .entry)) .config) (decode (now (cells .entry)) .time) (argsOf (now (packet .entry)) a interface time o))) ⌝ }
+{
+    if cells[USED] <= interface {
+        return refusal(NOT_IN_USE);
+    }
+    if time < cells[TIME] {
+        return refusal(TIME_BEFORE);
+    }
+    if room < packet.len() {
+        return refusal(SHORT_OUTPUT);
+    }
+    packet_fault(packet, cells[VERSION])
+}
+
+// Whether an address stands at a place of the rows of the interfaces in use, the place of their field f.
+pub fn is_listed(cells: &[u64], place: usize, address: u32) -> bool
+    requires { ⌜ Knows (now cells) × (place < interfaceCells) ⌝ }
+    ensures { λ r. ⌜ ((f : Interface → ℕ) → IsFieldAt f place → r ≡ elem address (map f (decode (now (cells .entry)) .config .interfaces))) ⌝ }
+{
+    let a = address as u64;
+    let used = cells[USED];
+    (a == cells[OWN_0 + place])
+        | (((1 < used) & (a == cells[OWN_1 + place]))
+            | (((2 < used) & (a == cells[OWN_2 + place]))
+                | ((3 < used) & (a == cells[OWN_3 + place]))))
+}
