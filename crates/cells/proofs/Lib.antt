@@ -2,7 +2,6 @@ pub mod Bools
 pub mod Areas
 pub mod Trips
 pub mod Pairs
-pub mod Moves
 pub mod Lent
 pub mod Keys
 pub mod Search

@@ -1,8 +1,8 @@
 // Counting an originator message in a record's row of cells, and what is asked of a record when a message arrives.
 // `key` is the pair of neighbour address and interface that the message came by, and `w` the window size.
-use cells::write;
 use links::push;
 use links::recount;
+use moves::write;
 use record::ADDRESS;
 use record::BEST;
 use record::CURRENT;

@@ -1,11 +1,11 @@
 // Making a table in the cells that are lent.
-use cells::clear;
-use cells::write;
 use config::own_differ;
 use config::settings_ok;
 use layout::CAPACITY_MOST;
 use layout::INTERFACE_MOST;
 use layout::RECORDS_FROM;
+use moves::clear;
+use moves::write;
 use record::WIDTH;
 use rules::Interface;
 use rules::Settings;

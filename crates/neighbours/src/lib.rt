@@ -1,11 +1,11 @@
 // The neighbour rows in their area of cells: found, recorded and dropped.
 use cells::Found;
 use cells::PAIR;
-use cells::clear;
 use cells::find;
-use cells::move_down;
-use cells::put_in;
-use cells::write;
+use moves::clear;
+use moves::move_down;
+use moves::put_in;
+use moves::write;
 use window::distance;
 ghost use mathlib.Core.Path.{_≡_};
 ghost use mathlib.Core.Bool.{not, _||_};

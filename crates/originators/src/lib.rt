@@ -1,12 +1,12 @@
 // The originators' records in a table's cells: found by address, counted in, and made.
 use cells::Found;
 use cells::find;
-use cells::put_in;
 use counting::count_message;
 use counting::first_record;
 use layout::RECORDS;
 use layout::RECORDS_FROM;
 use layout::WINDOW;
+use moves::put_in;
 use record::WIDTH;
 ghost use mathlib.Core.Path.{_≡_};
 ghost use Prim.Native.Nat.{ℕ, _<_};

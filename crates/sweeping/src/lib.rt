@@ -1,10 +1,10 @@
 // The sweep: records whose time is more than the purge timeout ago are removed, in one pass that moves each kept record once.
-use cells::clear;
-use cells::move_down;
 use layout::PURGE;
 use layout::RECORDS;
 use layout::RECORDS_FROM;
 use layout::TIME;
+use moves::clear;
+use moves::move_down;
 use record::WIDTH;
 use rules::Swept;
 use table::well_formed;

@@ -4,10 +4,10 @@ use Prim.Native.Nat.{_-_, _≤_}
 use native.Mathlib.Omega.{arith}
 use lib.ListN.{length, length-set}
 use lib.Seq.{paste, paste-zero}
 use Rattle.cells.specs.Area.{zeros}
-use Rattle.cells.proofs.Moves.{zeros-turn, zeros-done}
-use Rattle.cells.proofs.clear.Statement.{statement}
-use Rattle.cells.proofs.clear.Tie as tie
+use Rattle.moves.proofs.Moves.{zeros-turn, zeros-done}
+use Rattle.moves.proofs.clear.Statement.{statement}
+use Rattle.moves.proofs.clear.Tie as tie
 
 abbrev Inv-loop : tie.InvT-loop
 Inv-loop cells₀ i₀ cells i = (i ≤ length cells₀) × (length cells ≡ length cells₀) × (cells ≡ paste cells₀ 0 (zeros (length cells₀)) i)

@@ -5,10 +5,10 @@ use native.Mathlib.Omega.{arith}
 use lib.ListN.{length, getD, length-set}
 use lib.Seq.{paste, paste-zero}
 use mathlib.Core.List.{List}
 use Rattle.cells.specs.Area.{written}
-use Rattle.cells.proofs.Moves.{paste-turn, paste-two, paste-done, still, source, length-source, down-cell}
-use Rattle.cells.proofs.move_down.Statement.{statement}
-use Rattle.cells.proofs.move_down.Tie as tie
+use Rattle.moves.proofs.Moves.{paste-turn, paste-two, paste-done, still, source, length-source, down-cell}
+use Rattle.moves.proofs.move_down.Statement.{statement}
+use Rattle.moves.proofs.move_down.Tie as tie
 
 abbrev Inv-loop : tie.InvT-loop
 Inv-loop cells₀ from to w j₀ cells j = (j ≤ w) × (length cells ≡ length cells₀) × (cells ≡ paste cells₀ to (source cells₀ from w) j)

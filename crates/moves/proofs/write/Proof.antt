@@ -4,9 +4,9 @@ use Prim.Native.Nat.{_-_, _≤_}
 use native.Mathlib.Omega.{arith}
 use lib.ListN.{length, length-set}
 use lib.Seq.{paste, paste-zero}
-use Rattle.cells.proofs.Moves.{paste-turn, paste-done}
-use Rattle.cells.proofs.write.Statement.{statement}
-use Rattle.cells.proofs.write.Tie as tie
+use Rattle.moves.proofs.Moves.{paste-turn, paste-done}
+use Rattle.moves.proofs.write.Statement.{statement}
+use Rattle.moves.proofs.write.Tie as tie
 
 abbrev Inv-loop : tie.InvT-loop
 Inv-loop cells₀ at row j₀ cells j = (j ≤ length row) × (length cells ≡ length cells₀) × (cells ≡ paste cells₀ at row j)

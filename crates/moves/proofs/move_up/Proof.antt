@@ -3,9 +3,9 @@ use mathlib.Core.Path.{_≡_, refl, _∙_}
 use Prim.Native.Nat.{_-_, _≤_}
 use native.Mathlib.Omega.{arith}
 use lib.ListN.{length, length-set}
-use Rattle.cells.proofs.Moves.{upTo, up-start, up-turn, up-done}
-use Rattle.cells.proofs.move_up.Statement.{statement}
-use Rattle.cells.proofs.move_up.Tie as tie
+use Rattle.moves.proofs.Moves.{upTo, up-start, up-turn, up-done}
+use Rattle.moves.proofs.move_up.Statement.{statement}
+use Rattle.moves.proofs.move_up.Tie as tie
 
 abbrev Inv-loop : tie.InvT-loop
 Inv-loop cells₀ at w low k₀ cells k = (low ≤ k) × (k ≤ length cells₀) × (length cells ≡ length cells₀) × (cells ≡ upTo cells₀ w k)

@@ -1,8 +1,8 @@
 use borrow.Author.Needs.{needs}
 use native.Mathlib.Omega.{arith}
-use Rattle.cells.proofs.Moves.{put-done}
-use Rattle.cells.proofs.put_in.Statement.{statement}
-use Rattle.cells.proofs.put_in.Tie as tie
+use Rattle.moves.proofs.Moves.{put-done}
+use Rattle.moves.proofs.put_in.Statement.{statement}
+use Rattle.moves.proofs.put_in.Tie as tie
 
 returns : tie.Need-returns
 returns c =

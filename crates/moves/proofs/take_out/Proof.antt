@@ -1,8 +1,8 @@
 use borrow.Author.Needs.{needs}
 use native.Mathlib.Omega.{arith}
-use Rattle.cells.proofs.Moves.{take-done}
-use Rattle.cells.proofs.take_out.Statement.{statement}
-use Rattle.cells.proofs.take_out.Tie as tie
+use Rattle.moves.proofs.Moves.{take-done}
+use Rattle.moves.proofs.take_out.Statement.{statement}
+use Rattle.moves.proofs.take_out.Tie as tie
 
 returns : tie.Need-returns
 returns c =
