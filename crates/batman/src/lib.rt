@@ -17,7 +17,7 @@ ghost use Rattle.layout.specs.Calls.{callOn};
 ghost use Rattle.make.specs.Make.{makeArgs, neededFor};
 ghost use Rattle.changes.specs.Performed.{Performed};
 ghost use Rattle.arrivals.specs.Receiving.{argsOf};
-ghost use Rattle.sending.specs.Sending.{args};
+ghost use Rattle.own_packets.specs.OwnPacket.{args};
 
 // The interface rows as C passes them: an array can't be a parameter there.
 #[repr(C)]

@@ -22,8 +22,9 @@ use Rattle.layout.specs.Cells.{encode, decode, wellFormed}
 use Rattle.changes.specs.Performed.{Performed}
 use Rattle.changes.proofs.Values.{used-read}
 use Rattle.changes.proofs.Performing.{not-asked, does, refuses}
-use Rattle.sending.specs.Sending.{args, faultIn, sentFrom, Sent, refusedBy}
-use Rattle.sending.proofs.Refusals.{own-size}
+use Rattle.own_packets.specs.OwnPacket.{args, faultIn}
+use Rattle.sending.specs.Sending.{sentFrom, Sent, refusedBy}
+use Rattle.own_packets.proofs.Refusals.{own-size}
 
 module _ (c : List ℕ) (a : OwnArgs) where
   -- refusal 1

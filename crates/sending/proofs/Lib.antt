@@ -1,4 +1,3 @@
 -- The own packet's steps, as the rules say them.
-pub mod Refusals
 pub mod Steps
 pub mod Call

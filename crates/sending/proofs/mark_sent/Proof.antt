@@ -10,7 +10,7 @@ use denote.Ref.{now}
 use Rattle.rules.specs.Settings.{interfaceCells}
 use Rattle.layout.specs.Layout.{ownPlace, sentAt, lastAt}
 use Rattle.cells.proofs.Lent.{part-length}
-use Rattle.sending.proofs.Steps.{row-within, sent-is}
+use Rattle.sending.proofs.Steps.{sent-is}
 use Rattle.sending.proofs.mark_sent.Statement.{statement}
 use Rattle.sending.proofs.mark_sent.Tie as tie
 

@@ -16,7 +16,7 @@ use Rattle.rules.proofs.Faults.{found-number}
 use Rattle.layout.specs.Cells.{wellFormed}
 use Rattle.changes.specs.Performed.{Performed}
 use Rattle.table.proofs.Knowing.{knows}
-use Rattle.sending.specs.Sending.{args, faultIn}
+use Rattle.own_packets.specs.OwnPacket.{args, faultIn}
 use Rattle.sending.proofs.Call.{ill-formed, faulty, sends, used, room, by-number}
 use Rattle.sending.proofs.own_packet.Statement.{statement}
 use Rattle.sending.proofs.own_packet.Tie as tie

@@ -7,7 +7,8 @@ use borrow.Author.Needs.{needs}
 use denote.Ref.{now}
 use Rattle.rules.specs.Settings.{interfaceCells}
 use Rattle.layout.specs.Layout.{ownPlace}
-use Rattle.sending.proofs.Steps.{next-is, rows-kept, sent-all}
+use Rattle.own_packets.proofs.Message.{next-is}
+use Rattle.sending.proofs.Steps.{rows-kept, sent-all}
 use Rattle.sending.proofs.send_packet.Statement.{statement}
 use Rattle.sending.proofs.send_packet.Tie as tie
 

@@ -1,4 +1,4 @@
--- `sending::own_fault` meets its contract. Assumes nothing.
+-- `own_packets::own_fault` meets its contract. Assumes nothing.
 use mathlib.Core.Path.{_≡_, refl, sym, ap, _∙_}
 use mathlib.Core.List.{List}
 use Prim.Native.Nat.{ℕ, _+_, _≤_, _<_}
@@ -8,9 +8,9 @@ use lib.ListN.{length}
 use denote.Ref.{now}
 use Rattle.wire.specs.declared.Fault.{Fault}
 use Rattle.wire.specs.Check.{faultOf, writtenFault}
-use Rattle.sending.proofs.Refusals.{not-in-use, before, short, fault, low, none-refused}
-use Rattle.sending.proofs.own_fault.Statement.{statement}
-use Rattle.sending.proofs.own_fault.Tie as tie
+use Rattle.own_packets.proofs.Refusals.{not-in-use, before, short, fault, low, none-refused}
+use Rattle.own_packets.proofs.own_fault.Statement.{statement}
+use Rattle.own_packets.proofs.own_fault.Tie as tie
 
 -- the HNA octets have no fault
 fine : (c : tie.Else5) → faultOf (writtenFault (now (c .before .before .before .before .before .before .before .before .before .before .before .args .hna))) .number ≡ 0

@@ -18,7 +18,7 @@ use Rattle.rules.proofs.Faults.{written-numbered, no-number}
 use Rattle.layout.specs.Layout.{timeAt, usedAt}
 use Rattle.layout.specs.Cells.{decode}
 use Rattle.changes.proofs.Values.{time-read, used-read}
-use Rattle.sending.specs.Sending.{args, faultIn}
+use Rattle.own_packets.specs.OwnPacket.{args, faultIn}
 
 -- a refusal that is found comes before those that follow
 first-found : (x y : Option Fault) → (faultOf x .number ≡ 0 → ⊥) → faultOf x ≡ faultOf (maybe x y some)

@@ -1,9 +1,9 @@
--- `sending::next_number` meets its contract. Assumes nothing.
+-- `own_packets::next_number` meets its contract. Assumes nothing.
 use borrow.Author.Needs.{needs}
 use denote.Ref.{now}
-use Rattle.sending.proofs.Steps.{one-more, the-first}
-use Rattle.sending.proofs.next_number.Statement.{statement}
-use Rattle.sending.proofs.next_number.Tie as tie
+use Rattle.own_packets.proofs.Message.{one-more, the-first}
+use Rattle.own_packets.proofs.next_number.Statement.{statement}
+use Rattle.own_packets.proofs.next_number.Tie as tie
 
 returns : tie.Need-returns
 returns c x last f e = one-more (now (c .before .before .before .args .row)) x f last e (search needs)

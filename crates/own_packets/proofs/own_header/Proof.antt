@@ -1,10 +1,10 @@
--- `sending::own_header` meets its contract. Assumes nothing.
+-- `own_packets::own_header` meets its contract. Assumes nothing.
 use mathlib.Core.Path.{_≡_, refl}
 use borrow.Author.Needs.{needs}
 use denote.Ref.{now}
-use Rattle.sending.proofs.Steps.{version-is, own-is}
-use Rattle.sending.proofs.own_header.Statement.{statement}
-use Rattle.sending.proofs.own_header.Tie as tie
+use Rattle.own_packets.proofs.Message.{version-is, own-is}
+use Rattle.own_packets.proofs.own_header.Statement.{statement}
+use Rattle.own_packets.proofs.own_header.Tie as tie
 
 returns : tie.Need-returns
 returns c =

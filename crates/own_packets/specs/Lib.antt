@@ -1,0 +1,2 @@
+-- The own packet before it is sent.
+pub mod OwnPacket
