@@ -1,5 +1,5 @@
 // The calls by the names that a line begins with.
-use script::words::same;
+use words::same;
 
 const COMMENT: u8 = b'#';
 

@@ -1,20 +1,20 @@
 // A line as a call with its arguments.
 use crate::names::Call;
 use crate::names::line_of;
-use script::numbers::MOST_8;
-use script::numbers::MOST_16;
-use script::numbers::MOST_32;
-use script::numbers::MOST_64;
-use script::numbers::NUMBERS_MOST;
-use script::numbers::Numbers;
-use script::numbers::only_numbers;
-use script::numbers::read_numbers;
-use script::octets::last_octets;
-use script::words::next_word;
+use numbers::MOST_8;
+use numbers::MOST_16;
+use numbers::MOST_32;
+use numbers::MOST_64;
+use numbers::NUMBERS_MOST;
+use numbers::Numbers;
+use numbers::only_numbers;
+use numbers::read_numbers;
+use octets::last_octets;
+use words::next_word;
 ghost use mathlib.Core.Path.{_≡_};
 ghost use Prim.Native.Nat.{_≤_};
 ghost use lib.ListN.{length};
-ghost use Rattle.script.specs.Octets.{Fits};
+ghost use Rattle.octets.specs.Octets.{Fits};
 
 // The most cells that are lent, the most octets of a packet, of HNA entries, and of an output, and the most rows that are
 // lent to the list call.

@@ -1,9 +1,9 @@
 // What make is given: its numbers as settings and interface rows.
+use numbers::NUMBERS_MOST;
+use numbers::address;
+use numbers::sequence;
 use rules::Interface;
 use rules::Settings;
-use script::numbers::NUMBERS_MOST;
-use script::numbers::address;
-use script::numbers::sequence;
 ghost use Prim.Native.Nat.{_+_, _<_};
 
 // How many numbers stand before the interface rows, and how many a row has.

@@ -11,11 +11,11 @@ use lines::names::Call;
 use lines::requests::OUTPUT_MOST;
 use lines::tables::rows_of;
 use lines::tables::settings_of;
-use script::numbers::NUMBERS_MOST;
-use script::numbers::address;
-use script::numbers::octet;
-use script::numbers::sequence;
-ghost use Rattle.script.specs.Octets.{Fits};
+use numbers::NUMBERS_MOST;
+use numbers::address;
+use numbers::octet;
+use numbers::sequence;
+ghost use Rattle.octets.specs.Octets.{Fits};
 
 // Each octet of an output before a call.
 const FILLER: u8 = 238;

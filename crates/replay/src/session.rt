@@ -6,8 +6,8 @@ use lines::gather;
 use lines::names::Call;
 use lines::requests::PACKET_MOST;
 use lines::requests::read;
-use script::numbers::NUMBERS_MOST;
-ghost use Rattle.script.specs.Octets.{Fits};
+use numbers::NUMBERS_MOST;
+ghost use Rattle.octets.specs.Octets.{Fits};
 
 const LINE_END: u8 = b'\n';
 
