@@ -22,7 +22,7 @@ use Rattle.rules.specs.Rules.{linkRows, unless, refuse, fillRows, step}
 use Rattle.rules.specs.Table.{TableRecord, table}
 use Rattle.rules.specs.WellFormed as R
 use Rattle.record.specs.Record.{linksAt, linksOf, decodeRecord}
-use Rattle.record.proofs.Checks.{small-pair}
+use Rattle.record.proofs.Rows.{small-pair}
 use Rattle.layout.specs.Cells.{encode, decode, wellFormed}
 use Rattle.layout.specs.Facts.{recordAt}
 use Rattle.layout.specs.Calls.{Done, refused, callOn}

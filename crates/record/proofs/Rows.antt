@@ -2,13 +2,13 @@
 use mathlib.Core.Path.{_≡_, refl, sym, ap, _∙_, subst}
 use mathlib.Core.List.{List, _∷_}
 use mathlib.Core.Option.{Option, none, some}
-use mathlib.Core.Bool.{true, false, false≢true}
-use Prim.Native.Nat.{ℕ, _+_, _*_, _-_, _≤_, _<_}
+use mathlib.Core.Bool.{Bool, true, false, false≢true}
+use Prim.Native.Nat.{ℕ, _+_, _*_, _-_, _/_, _≤_, _<_}
 use native.Mathlib.Omega.{arith}
-use lib.Dec.{leb}
+use lib.Dec.{leb, ltb}
 use lib.ListN.{length, drop, getD, length-append, length-drop}
 use lib.Seq.{drop-drop}
-use borrow.Author.Tests.{ltb-true, leb-true}
+use borrow.Author.Tests.{lt-ltb, le-ltb, ltb-true, ltb-false, leb-true}
 use Rattle.lists.specs.Lists.{maybe, and, all}
 use Rattle.lists.specs.Keyed.{lookup}
 use Rattle.cells.specs.Area.{allZero}
@@ -18,11 +18,20 @@ use Rattle.lists.proofs.Tests.{and-left, and-right, both, and-at}
 use Rattle.cells.proofs.Areas.{length-area}
 use Rattle.cells.proofs.Pairs.{pair-wide, pairs-trip, pairs-area, pairs-rest, length-pairs}
 use Rattle.cells.proofs.Lent.{cells-from}
-use Rattle.rules.specs.Settings.{Config, linkMost, linkCells, recordHeadCells, recordCells}
+use Rattle.rules.specs.Settings.{Config, linkMost, linkCells, recordHeadCells, recordCells, isAddress}
+use Rattle.rules.specs.Calls.{neighbourOf}
 use Rattle.rules.specs.Table.{TableRecord}
 use Rattle.rules.specs.WellFormed.{linkTests, recordTests}
 use Rattle.record.specs.Record.{currentAt, lastTtlAt, linksAt, bestAt, fieldsOf, encodeRecord, linksOf, decodeRecord, unusedLinks, recordOk, Held}
-use Rattle.record.proofs.Checks.{small-pair}
+
+-- a pair whose address is in its range
+pub small-pair : (k : ℕ) → ltb k 17179869184 ≡ isAddress (neighbourOf k)
+unfolding neighbourOf
+small-pair k = go (ltb k 17179869184) refl
+  where
+    go : (b : Bool) → ltb k 17179869184 ≡ b → b ≡ ltb (k / 4) 4294967296
+    go true e = let h = ltb-true k 17179869184 e in sym (lt-ltb (k / 4) 4294967296 (omega arith))
+    go false e = let h = ltb-false k 17179869184 e in sym (le-ltb (k / 4) 4294967296 (omega arith))
 
 pub length-record : (e : ℕ × TableRecord) → length (encodeRecord e) ≡ recordCells
 unfolding encodeRecord

@@ -1,3 +1,2 @@
 -- One originator's record in its cells.
 pub mod Record
-pub mod Limits

@@ -8,8 +8,8 @@ use lib.Dec.{ltb, eqb}
 use lib.ListN.{take, getD}
 use Rattle.lists.specs.Lists.{elem}
 use Rattle.rules.specs.Settings.{interfaceMost}
-use Rattle.record.specs.declared.Limits.{Limits}
-use Rattle.record.specs.Limits.{Describes, ownOf}
+use Rattle.record_check.specs.declared.Limits.{Limits}
+use Rattle.record_check.specs.Limits.{Describes, ownOf}
 use Rattle.layout.specs.Layout.{usedAt, windowAt, timeAt, ownPlace}
 use Rattle.layout.specs.Cells.{configIn}
 use Rattle.config.proofs.Own.{own-used}

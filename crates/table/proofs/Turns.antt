@@ -27,7 +27,7 @@ use Rattle.rules.specs.Rules.{lastSent}
 use Rattle.rules.specs.WellFormed.{rowTests}
 use Rattle.record.specs.Record.{decodeRecord, recordOk, addressAt}
 use Rattle.record.proofs.Rows.{record-key}
-use Rattle.record.proofs.Checks.{small-pair}
+use Rattle.record.proofs.Rows.{small-pair}
 use Rattle.layout.specs.Layout.{usedAt, timeoutAt, rowsAt, sentAt, lastAt, ownPlace, neighboursFrom, recordsFrom, interfacePart, neighbourPart}
 use Rattle.layout.specs.Interfaces.{InterfaceRow, decodeInterface}
 use Rattle.layout.specs.Cells.{interfacesIn, configIn, sendsIn, rowsIn, unusedRows}

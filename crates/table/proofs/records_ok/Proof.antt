@@ -10,7 +10,7 @@ use borrow.Author.Tests.{not-true, not-false, eq-eqb, ne-eqb, eqb-true}
 use Rattle.cells.specs.Area.{allZero}
 use Rattle.cells.proofs.Lent.{part-first, tail-is}
 use Rattle.rules.specs.Settings.{Config, recordCells}
-use Rattle.record.specs.Limits.{Describes}
+use Rattle.record_check.specs.Limits.{Describes}
 use Rattle.table.proofs.Turns.{records-from, records-next, records-stop, records-end, records-done}
 use Rattle.table.proofs.records_ok.Statement.{statement}
 use Rattle.table.proofs.records_ok.Tie as tie

@@ -3,12 +3,12 @@ use mathlib.Core.Path.{_≡_, refl, sym, ap, _∙_}
 use mathlib.Core.List.{List, _∷_, map}
 use mathlib.Core.Bool.{Bool, true, false, cond, _&&_, _||_, not, and-true, and-assoc, or-assoc, or-false}
 use mathlib.Core.Option.{some}
-use Prim.Native.Nat.{ℕ, zero, suc, _+_, _-_, _/_, _%_, _^_, _≤_, _<_}
+use Prim.Native.Nat.{ℕ, zero, suc, _+_, _-_, _%_, _^_, _≤_, _<_}
 use native.Mathlib.Omega.{arith}
 use lib.Dec.{leb, ltb, eqb}
 use lib.ListN.{length, take, drop, getD}
 use lib.Pow.{pow-pos}
-use borrow.Author.Tests.{lt-ltb, le-ltb, ltb-true, ltb-false, ne-eqb}
+use borrow.Author.Tests.{lt-ltb, ltb-true, ne-eqb}
 use Rattle.lists.specs.Lists.{and, all, maybe}
 use Rattle.lists.specs.Keyed.{lookup, hasKey, rising}
 use Rattle.cells.specs.Area.{allZero, rowsOf, scan}
@@ -19,11 +19,12 @@ use Rattle.cells.proofs.Keys.{rows-one, rows-none, scan-next, scan-stop, scan-e
 use Rattle.cells.proofs.Pairs.{pair-at, length-pairs}
 use Rattle.window.specs.Window.{hasMark}
 use Rattle.rules.specs.Settings.{Config, linkMost, linkCells, recordHeadCells, within, isAddress, isNumber, isOctet, isOwn}
-use Rattle.rules.specs.Calls.{neighbourOf, interfaceOf}
+use Rattle.rules.specs.Calls.{interfaceOf}
 use Rattle.rules.specs.WellFormed.{linkTests}
-use Rattle.record.specs.declared.Limits.{Limits}
+use Rattle.record.proofs.Rows.{small-pair}
+use Rattle.record_check.specs.declared.Limits.{Limits}
 use Rattle.record.specs.Record.{linksAt, bestAt, addressAt, linksOf, decodeRecord, unusedLinks, recordOk}
-use Rattle.record.specs.Limits.{Describes, fieldsOk, marksOk, linksOk}
+use Rattle.record_check.specs.Limits.{Describes, fieldsOk, marksOk, linksOk}
 
 pub or-end : (a b c d : Bool) → a || (b || (c || d)) ≡ a || (b || (c || (d || false)))
 or-end true b c d = refl
@@ -33,15 +34,6 @@ or-end false false false true = refl
 or-end false false false false = refl
 
 -- ---- a link
-
--- a pair whose address is in its range
-pub small-pair : (k : ℕ) → ltb k 17179869184 ≡ isAddress (neighbourOf k)
-unfolding neighbourOf
-small-pair k = go (ltb k 17179869184) refl
-  where
-    go : (b : Bool) → ltb k 17179869184 ≡ b → b ≡ ltb (k / 4) 4294967296
-    go true e = let h = ltb-true k 17179869184 e in sym (lt-ltb (k / 4) 4294967296 (omega arith))
-    go false e = let h = ltb-false k 17179869184 e in sym (le-ltb (k / 4) 4294967296 (omega arith))
 
 -- marks that are not both some and inside the window
 pub marks-tests : (W marks best pair : ℕ) (fit : Bool) → fit ≡ ltb marks (2 ^ W) → ltb 0 marks && fit ≡ false

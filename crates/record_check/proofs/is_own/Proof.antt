@@ -1,7 +1,7 @@
 use lib.Dec.{eqb}
-use Rattle.record.proofs.Checks.{or-end}
-use Rattle.record.proofs.is_own.Statement.{statement}
-use Rattle.record.proofs.is_own.Tie as tie
+use Rattle.record_check.proofs.Checks.{or-end}
+use Rattle.record_check.proofs.is_own.Statement.{statement}
+use Rattle.record_check.proofs.is_own.Tie as tie
 
 returns : tie.Need-returns
 returns c =

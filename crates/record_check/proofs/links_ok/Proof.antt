@@ -10,10 +10,10 @@ use borrow.Author.Tests.{not-true, not-false, eq-eqb, ne-eqb, eqb-true}
 use Rattle.lists.specs.Keyed.{hasKey}
 use Rattle.cells.specs.Pairs.{pairsOf}
 use Rattle.rules.specs.Settings.{Config}
-use Rattle.record.specs.Limits.{Describes}
-use Rattle.record.proofs.Checks.{links-from, links-next, links-stop, links-end, held-next, held-end, links-done}
-use Rattle.record.proofs.links_ok.Statement.{statement}
-use Rattle.record.proofs.links_ok.Tie as tie
+use Rattle.record_check.specs.Limits.{Describes}
+use Rattle.record_check.proofs.Checks.{links-from, links-next, links-stop, links-end, held-next, held-end, links-done}
+use Rattle.record_check.proofs.links_ok.Statement.{statement}
+use Rattle.record_check.proofs.links_ok.Tie as tie
 
 abbrev Inv-loop : tie.InvT-loop
 Inv-loop part n limits best low₀ held₀ at₀ left₀ low held at left =

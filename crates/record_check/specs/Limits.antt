@@ -10,8 +10,8 @@ use Rattle.lists.specs.Keyed.{rising, hasKey}
 use Rattle.window.specs.Window.{hasMark}
 use Rattle.rules.specs.Settings.{Config, linkMost, windowMost, within, isOctet, isAddress, isNumber, isOwn}
 use Rattle.rules.specs.WellFormed.{linkTests}
-use Rattle.record.specs.declared.Limits.{Limits}
+use Rattle.record_check.specs.declared.Limits.{Limits}
 use Rattle.record.specs.Record.{addressAt, currentAt, timeAt, lastTtlAt, linksAt, recordOk}
 
 abbrev pub ownOf : Limits → List ℕ
 ownOf l = l .own_0 ∷ l .own_1 ∷ l .own_2 ∷ l .own_3 ∷ []

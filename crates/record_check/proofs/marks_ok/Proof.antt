@@ -3,9 +3,9 @@ use mathlib.Core.Path.{sym, _∙_}
 use mathlib.Core.Bool.{_&&_, _||_}
 use lib.Dec.{ltb, eqb}
 use Rattle.lists.proofs.Tests.{and-left, and-right}
-use Rattle.record.proofs.Checks.{marks-tests}
-use Rattle.record.proofs.marks_ok.Statement.{statement}
-use Rattle.record.proofs.marks_ok.Tie as tie
+use Rattle.record_check.proofs.Checks.{marks-tests}
+use Rattle.record_check.proofs.marks_ok.Statement.{statement}
+use Rattle.record_check.proofs.marks_ok.Tie as tie
 
 returns : tie.Need-returns
 returns c =

@@ -2,10 +2,10 @@ use borrow.Author.Needs.{needs}
 use mathlib.Core.Path.{sym, ap, _∙_}
 use mathlib.Core.Bool.{Bool, _&&_}
 use borrow.Author.Tests.{not-true, not-false}
-use Rattle.record.specs.Limits.{marksOk}
-use Rattle.record.proofs.Checks.{pair-small, link-tests}
-use Rattle.record.proofs.link_ok.Statement.{statement}
-use Rattle.record.proofs.link_ok.Tie as tie
+use Rattle.record_check.specs.Limits.{marksOk}
+use Rattle.record_check.proofs.Checks.{pair-small, link-tests}
+use Rattle.record_check.proofs.link_ok.Statement.{statement}
+use Rattle.record_check.proofs.link_ok.Tie as tie
 
 returns : tie.Need-returns
 returns c =

@@ -10,11 +10,11 @@ use Rattle.cells.specs.Area.{allZero}
 use Rattle.cells.specs.Pairs.{pairsOf}
 use Rattle.cells.proofs.Lent.{tail-is, tail-length}
 use Rattle.rules.specs.Settings.{linkMost, linkCells, recordHeadCells}
 use Rattle.record.specs.Record.{linksAt, bestAt, linksOf, unusedLinks}
-use Rattle.record.specs.Limits.{linksOk}
-use Rattle.record.proofs.Checks.{record-tests}
-use Rattle.record.proofs.record_ok.Statement.{statement}
-use Rattle.record.proofs.record_ok.Tie as tie
+use Rattle.record_check.specs.Limits.{linksOk}
+use Rattle.record_check.proofs.Checks.{record-tests}
+use Rattle.record_check.proofs.record_ok.Statement.{statement}
+use Rattle.record_check.proofs.record_ok.Tie as tie
 
 -- the record has few links
 few : (c : tie.Else1) → getD (c .before .before .before .args .row .now) linksAt 0 ≤ linkMost

@@ -6,8 +6,8 @@ use mathlib.Core.Bool.{_&&_, not}
 use lib.Dec.{leb}
 use lib.ListN.{getD}
 use Rattle.rules.specs.Settings.{isAddress, isNumber, isOctet, within, linkMost}
-use Rattle.record.proofs.fields_ok.Statement.{statement}
-use Rattle.record.proofs.fields_ok.Tie as tie
+use Rattle.record_check.proofs.fields_ok.Statement.{statement}
+use Rattle.record_check.proofs.fields_ok.Tie as tie
 
 returns : tie.Need-returns
 returns c =

@@ -1,0 +1,2 @@
+-- The check of a record is document 01's tests of it.
+pub mod Checks

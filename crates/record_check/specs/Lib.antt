@@ -1,0 +1,2 @@
+-- What a record's cells are held to.
+pub mod Limits
