@@ -5,6 +5,8 @@ use wire::Place;
 use wire::VERSION_AT;
 use wire::refusal;
 ghost use mathlib.Core.Path.{_≡_};
+ghost use mathlib.Core.Option.{none};
+ghost use Prim.Native.Nat.{_≤_, _<_};
 ghost use Rattle.wire.specs.Check as C;
 ghost use Rattle.wire.specs.Place.{placeOf};
 
@@ -34,17 +36,40 @@ fn wide(octet: u8) -> u64
     octet as u64
 }
 
+// Whether the mask of the entry at place k is above 32.
+fn is_bad(hna: &[u8], k: usize) -> bool
+    requires { ⌜ k < C.entries (now hna) ⌝ }
+    ensures { λ r. ⌜ r ≡ C.badMask (now (hna .entry)) k ⌝ }
+{
+    hna[ENTRY_SIZE * k + MASK_AT] > MASK_MOST
+}
+
+// How many entries are passed, two at a time, before a pair with a bad mask or the end: masks are hardly ever bad, and this takes half the turns.
+fn pass_pairs(hna: &[u8], entries: usize) -> usize
+    requires { ⌜ entries ≡ C.entries (now hna) ⌝ }
+    ensures { λ r. ⌜ (r ≤ entries) × (C.firstWhere r (C.badMask (now (hna .entry))) ≡ none) ⌝ }
+{
+    let mut k = 0;
+    while k + 1 < entries {
+        if is_bad(hna, k) | is_bad(hna, k + 1) {
+            break;
+        }
+        k += 2;
+    }
+    k
+}
+
 // The place of the first entry with a mask above 32.
 fn first_bad_mask(hna: &[u8]) -> Place
     ensures { λ r. ⌜ r ≡ placeOf (C.firstBadMask (now (hna .entry))) ⌝ }
 {
     let entries = hna.len() / ENTRY_SIZE;
-    let mut k = 0;
+    let mut k = pass_pairs(hna, entries);
     loop {
         if k == entries {
             break Place::Nowhere;
         }
-        if hna[ENTRY_SIZE * k + MASK_AT] > MASK_MOST {
+        if is_bad(hna, k) {
             break Place::At(k);
         }
         k += 1;

@@ -55,8 +55,11 @@ firstWhere zero f = none
 firstWhere (suc n) f = maybe (firstWhere n f) (cond (f n) (some n) none) some
 
 -- 8: a mask above 32; with the place of the first entry with such a mask
+abbrev pub badMask : List ℕ → ℕ → Bool
+badMask e k = ltb maskMost (mask e k)
+
 unfoldable pub firstBadMask : List ℕ → Option ℕ
-firstBadMask e = firstWhere (entries e) (λ k. ltb maskMost (mask e k))
+firstBadMask e = firstWhere (entries e) (badMask e)
 
 abbrev pub maskFault : List ℕ → Option Fault
 maskFault e = maybe (firstBadMask e) none (λ k. some (record { number = 8; place = k }))

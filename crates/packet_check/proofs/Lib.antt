@@ -1,0 +1,2 @@
+-- The steps of the search for a bad mask.
+pub mod Masks
