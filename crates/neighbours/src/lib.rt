@@ -12,7 +12,7 @@ ghost use mathlib.Core.Bool.{not, _||_};
 ghost use Prim.Native.Nat.{_+_, _<_, _≤_};
 ghost use lib.Dec.{ltb, eqb};
 ghost use lib.ListN.{length};
-ghost use Rattle.lists.specs.Lists.{keep};
+ghost use Rattle.lists.specs.Lists.{keep, all};
 ghost use Rattle.lists.specs.Keyed.{hasKey};
 ghost use Rattle.cells.specs.Pairs.{pairArea, pairsOf};
 ghost use Rattle.rules.specs.Settings.{neighbourMost};
@@ -76,8 +76,25 @@ fn stays(link: u64, number: u64, interface: u64, last: u16, timeout: u64) -> boo
     (link % INTERFACES != interface) | (distance(last, (number % NUMBERS) as u16) < timeout)
 }
 
-// Drops an interface's rows that are too far behind its last number, in one pass that moves each kept row once; and how many are held then.
-pub fn drop_old(rows: &mut [u64], n: usize, interface: u64, last: u16, timeout: u64) -> usize
+// Whether every row stays, as they nearly always do.
+fn all_stay(rows: &[u64], n: usize, interface: u64, last: u16, timeout: u64) -> bool
+    requires { ⌜ RowsHeld n (now rows) ⌝ }
+    ensures { λ r. ⌜ r ≡ all (staysAfter interface last timeout) (pairsOf n (now (rows .entry))) ⌝ }
+{
+    let mut at = 0;
+    let mut left = n;
+    while 0 < left {
+        if !stays(rows[at], rows[at + 1], interface, last, timeout) {
+            break;
+        }
+        at += ROW;
+        left -= 1;
+    }
+    left == 0
+}
+
+// Keeps the rows that stay, in one pass that moves each once; and how many are held then.
+fn keep_rows(rows: &mut [u64], n: usize, interface: u64, last: u16, timeout: u64) -> usize
     requires { ⌜ RowsHeld n (now rows) ⌝ }
     ensures { λ r. ⌜ (now (rows .exit) ≡ pairArea neighbourMost (keep (staysAfter interface last timeout) (pairsOf n (now (rows .entry))))) × (r ≡ length (keep (staysAfter interface last timeout) (pairsOf n (now (rows .entry))))) ⌝ }
 {
@@ -96,4 +113,15 @@ pub fn drop_old(rows: &mut [u64], n: usize, interface: u64, last: u16, timeout: 
     }
     clear(&mut rows[to..from]);
     kept
+}
+
+// Drops an interface's rows that are too far behind its last number; and how many are held then.
+pub fn drop_old(rows: &mut [u64], n: usize, interface: u64, last: u16, timeout: u64) -> usize
+    requires { ⌜ RowsHeld n (now rows) ⌝ }
+    ensures { λ r. ⌜ (now (rows .exit) ≡ pairArea neighbourMost (keep (staysAfter interface last timeout) (pairsOf n (now (rows .entry))))) × (r ≡ length (keep (staysAfter interface last timeout) (pairsOf n (now (rows .entry))))) ⌝ }
+{
+    if all_stay(rows, n, interface, last, timeout) {
+        return n;
+    }
+    keep_rows(rows, n, interface, last, timeout)
 }
