@@ -5,6 +5,7 @@ use rules::LinkRow;
 use rules::Received;
 use rules::Route;
 use rules::Written;
+use rules::verdicts::PASSED_ON;
 use text::put_line_end;
 use text::put_number;
 use text::put_octets;
@@ -12,9 +13,6 @@ use text::put_word;
 
 // The most rows that a list call fills.
 const LINKS_MOST: usize = 8;
-
-// The verdict of a packet that is passed on.
-const PASSED_ON: u64 = 26;
 
 // A word and a number.
 pub fn put_one(text: &mut [u8], used: usize, word: &[u8], number: u64) -> usize {

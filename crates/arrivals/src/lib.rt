@@ -12,6 +12,9 @@ use routing::best::no_route;
 use routing::best::route_to;
 use rules::Received;
 use rules::Route;
+use rules::TTL_LEAST;
+use rules::verdicts::KEPT;
+use rules::verdicts::PASSED_ON;
 use wire::Fault;
 ghost use mathlib.Core.Path.{_≡_};
 ghost use mathlib.Core.Bool.{true, _&&_, _||_};
@@ -38,14 +41,6 @@ pub struct Arrival {
     pub sequence: u16,
     pub originator: u32,
 }
-
-// The least TTL of a packet that is passed on.
-const TTL_LEAST: u8 = 2;
-
-// The verdicts on a message of another node.
-const KEPT: u64 = 25;
-
-const PASSED_ON: u64 = 26;
 
 // The answer to a refused packet.
 pub fn refused(fault: Fault) -> Received

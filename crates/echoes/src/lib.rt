@@ -16,7 +16,10 @@ use neighbours::Echo;
 use neighbours::record_echo;
 use packets::output::is_direct;
 use rules::Received;
+use rules::verdicts::ECHO;
+use rules::verdicts::OWN_ORIGINATOR;
 use wire::refusal;
+use wire::refusals::NEIGHBOURS_FULL;
 ghost use mathlib.Core.Path.{_≡_};
 ghost use mathlib.Core.List.{List};
 ghost use Prim.Native.Nat.{ℕ, _<_};
@@ -28,13 +31,6 @@ ghost use Rattle.layout.specs.Layout.{usedAt};
 ghost use Rattle.layout.specs.Cells.{decode};
 ghost use Rattle.layout.specs.Facts.{Knows};
 ghost use Rattle.arrivals.specs.Receiving.{callOf, Leaves, Fits, Taken, Heard, Echoes, ownMessage};
-
-// The refusal, and the verdicts.
-const ROWS_FULL: u64 = 9;
-
-const ECHO: u64 = 22;
-
-const OWN_ORIGINATOR: u64 = 23;
 
 // Whether a message of an own originator is the echo of the receiving interface's last packet, from next to it.
 fn is_echo(cells: &[u64], m: Arrival) -> bool
@@ -60,7 +56,7 @@ fn take_echo(cells: &mut [u64], m: Arrival) -> Received
         m.sequence as u64,
     );
     match e {
-        Echo::Full => refused(refusal(ROWS_FULL)),
+        Echo::Full => refused(refusal(NEIGHBOURS_FULL)),
         Echo::Rows(rows) => {
             cells[ROWS] = rows as u64;
             cells[TIME] = m.time;

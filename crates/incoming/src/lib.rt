@@ -12,6 +12,9 @@ use packets::message::read;
 use record::INTERFACES;
 use wire::Fault;
 use wire::refusal;
+use wire::refusals::NOT_IN_USE;
+use wire::refusals::SHORT_OUTPUT;
+use wire::refusals::TIME_BEFORE;
 ghost use mathlib.Core.Path.{_≡_};
 ghost use mathlib.Core.Bool.{true};
 ghost use mathlib.Core.List.{List, map};
@@ -28,13 +31,6 @@ ghost use Rattle.rules.specs.WellFormed.{typed};
 ghost use Rattle.layout.specs.Cells.{decode};
 ghost use Rattle.layout.specs.Facts.{Knows};
 ghost use Rattle.arrivals.specs.Receiving.{argsOf, arrivalOf, IsFieldAt};
-
-// The refusals of a packet on a well-formed table, before those of its octets.
-const NOT_IN_USE: u64 = 2;
-
-const TIME_BEFORE: u64 = 3;
-
-const SHORT_OUTPUT: u64 = 4;
 
 // The message that a packet begins with, as it came from a sender.
 pub fn read_arrival(packet: &[u8], sender: u32, interface: u64, time: u64) -> Arrival

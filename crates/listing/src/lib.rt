@@ -11,6 +11,8 @@ use record::LINKS;
 use rules::LinkRow;
 use table::well_formed;
 use window::count;
+use wire::refusals::NOT_WELL_FORMED;
+use wire::refusals::SHORT_OUTPUT;
 ghost use mathlib.Core.Path.{_≡_};
 ghost use mathlib.Core.Bool.{cond};
 ghost use mathlib.Core.Option.{some};
@@ -25,11 +27,6 @@ ghost use Rattle.record.specs.Record.{decodeRecord};
 ghost use Rattle.layout.specs.Cells.{decode};
 ghost use Rattle.layout.specs.Facts.{Knows};
 ghost use Rattle.listing.specs.Listing.{zeroRow, rowOf, Listable, Finds, FindsNone, Settles};
-
-// The refusals.
-const NOT_WELL_FORMED: u64 = 1;
-
-const NO_ROOM: u64 = 4;
 
 // What is looked up: the first n rows are those of the links held, and `number` is 0 or a refusal, which has no rows.
 pub struct Links {
@@ -118,7 +115,7 @@ pub fn links_of(cells: &[u64], originator: u32, room: usize) -> Links
     }
     let got = held_links(cells, originator);
     if room < got.n {
-        return no_links(NO_ROOM);
+        return no_links(SHORT_OUTPUT);
     }
     got
 }

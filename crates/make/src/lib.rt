@@ -9,6 +9,7 @@ use moves::write;
 use record::WIDTH;
 use rules::Interface;
 use rules::Settings;
+use wire::refusals::NOT_ALLOWED;
 ghost use mathlib.Core.Path.{_≡_};
 ghost use mathlib.Core.Bool.{cond};
 ghost use Prim.Native.Nat.{_≤_};
@@ -16,9 +17,6 @@ ghost use Rattle.rules.specs.Settings.{makeAllowed, interfaceMost};
 ghost use Rattle.rules.specs.Calls.{answered, made, make};
 ghost use Rattle.layout.specs.Calls.{callOn};
 ghost use Rattle.make.specs.Make.{makeArgs, neededFor, freshHead, noInterface};
-
-// The refusal of make.
-pub const NOT_ALLOWED: u64 = 12;
 
 // How many cells a capacity needs; 0 for one that is not allowed.
 pub fn cells_needed(capacity: u64) -> u64

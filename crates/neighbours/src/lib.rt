@@ -6,6 +6,7 @@ use moves::clear;
 use moves::move_down;
 use moves::put_in;
 use moves::write;
+use window::NUMBERS;
 use window::distance;
 ghost use mathlib.Core.Path.{_≡_};
 ghost use mathlib.Core.Bool.{not, _||_};
@@ -25,8 +26,6 @@ const ROOM: usize = 32;
 
 // A link is the pair address * 4 + interface.
 const INTERFACES: u64 = 4;
-
-const NUMBERS: u64 = 65536;
 
 // How many rows are held after an echo, or that there is no room for one more.
 pub enum Echo {

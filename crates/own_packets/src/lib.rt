@@ -9,10 +9,18 @@ use layout::TIME;
 use layout::USED;
 use layout::VERSION;
 use packet_check::written_fault;
+use record::ADDRESSES;
+use record::NUMBERS;
+use record::OCTETS;
+use rules::TTL_LEAST;
 use wire::Fault;
 use wire::HEADER_SIZE;
 use wire::Header;
 use wire::refusal;
+use wire::refusals::NOT_IN_USE;
+use wire::refusals::SHORT_OUTPUT;
+use wire::refusals::TIME_BEFORE;
+use wire::refusals::TTL_TOO_LOW;
 ghost use mathlib.Core.Path.{_≡_};
 ghost use mathlib.Core.List.{List};
 ghost use mathlib.Core.Option.{Option};
@@ -28,26 +36,6 @@ ghost use Rattle.layout.specs.Interfaces.{encodeInterface};
 ghost use Rattle.layout.specs.Cells.{decode};
 ghost use Rattle.layout.specs.Facts.{Knows};
 ghost use Rattle.own_packets.specs.OwnPacket.{args, faultIn, headerFrom};
-
-// The least TTL of an own packet.
-const TTL_LEAST: u8 = 2;
-
-// The refusal numbers.
-const NOT_IN_USE: u64 = 2;
-
-const TIME_BEFORE: u64 = 3;
-
-const NO_ROOM: u64 = 4;
-
-const LOW_TTL: u64 = 13;
-
-// How many sequence numbers there are.
-const NUMBERS: u64 = 65536;
-
-// How many octets and addresses there are.
-const OCTETS: u64 = 256;
-
-const ADDRESSES: u64 = 4294967296;
 
 // What is refused of an own packet, on a well-formed table, into an output of `room` octets.
 pub fn own_fault(
@@ -68,17 +56,17 @@ pub fn own_fault(
         return refusal(TIME_BEFORE);
     }
     if room < HEADER_SIZE {
-        return refusal(NO_ROOM);
+        return refusal(SHORT_OUTPUT);
     }
     if room - HEADER_SIZE < hna.len() {
-        return refusal(NO_ROOM);
+        return refusal(SHORT_OUTPUT);
     }
     let fault = written_fault(hna);
     if fault.number != 0 {
         return fault;
     }
     if ttl < TTL_LEAST {
-        return refusal(LOW_TTL);
+        return refusal(TTL_TOO_LOW);
     }
     refusal(0)
 }

@@ -4,6 +4,10 @@ use wire::HEADER_SIZE;
 use wire::Place;
 use wire::VERSION_AT;
 use wire::refusal;
+use wire::refusals::RAGGED_ENTRIES;
+use wire::refusals::WRONG_MASK;
+use wire::refusals::WRONG_SIZE;
+use wire::refusals::WRONG_VERSION;
 ghost use mathlib.Core.Path.{_≡_};
 ghost use mathlib.Core.Option.{none};
 ghost use Prim.Native.Nat.{_≤_, _<_};
@@ -19,15 +23,6 @@ const ENTRY_SIZE: usize = 5;
 const MASK_AT: usize = 4;
 
 const MASK_MOST: u8 = 32;
-
-// The refusal numbers.
-const WRONG_SIZE: u64 = 5;
-
-const WRONG_VERSION: u64 = 6;
-
-const RAGGED_ENTRIES: u64 = 7;
-
-const WRONG_MASK: u64 = 8;
 
 // An octet as a wide number.
 fn wide(octet: u8) -> u64

@@ -11,22 +11,17 @@ use layout::OWN;
 use packets::output::is_unidirectional;
 use relaying::decide;
 use rules::Received;
+use rules::verdicts::OWN_BROADCAST;
+use rules::verdicts::OWN_SENDER;
+use rules::verdicts::UNIDIRECTIONAL;
 use table::well_formed;
 use wire::refusal;
+use wire::refusals::NOT_WELL_FORMED;
 ghost use Rattle.rules.specs.Calls as C;
 ghost use Rattle.rules.specs.Rules as R;
 ghost use Rattle.rules.specs.Table.{table};
 ghost use Rattle.changes.specs.Performed.{Performed};
 ghost use Rattle.arrivals.specs.Receiving.{argsOf, after, Leaves, Taken, Ruled};
-
-// The refusal, and the verdicts.
-const NOT_WELL_FORMED: u64 = 1;
-
-const OWN_SENDER: u64 = 20;
-
-const OWN_BROADCAST: u64 = 21;
-
-const UNIDIRECTIONAL: u64 = 24;
 
 // A packet that none of the refusals 2 to 8 turns away.
 fn judge(cells: &mut [u64], packet: &[u8], out: &mut [u8], m: Arrival) -> Received

@@ -41,7 +41,7 @@ pub const INTERFACES: u64 = 4;
 // How many addresses, sequence numbers, octets and pairs there are.
 pub const ADDRESSES: u64 = 4294967296;
 
-pub const NUMBERS: u64 = 65536;
+pub const NUMBERS: u64 = window::NUMBERS;
 
 pub const OCTETS: u64 = 256;
 

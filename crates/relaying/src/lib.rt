@@ -20,13 +20,10 @@ use originators::record_at;
 use routing::best::no_route;
 use rules::Received;
 use wire::refusal;
+use wire::refusals::LINKS_FULL;
+use wire::refusals::ORIGINATORS_FULL;
 ghost use Rattle.originators.specs.Originators.{Stands, Missing};
 ghost use Rattle.arrivals.specs.Receiving.{after, Leaves, Taken, Ruled, Decides, Counts, foreign};
-
-// The refusals.
-const RECORDS_FULL: u64 = 10;
-
-const LINKS_FULL: u64 = 11;
 
 // A message of an originator without a record, whose place would be i.
 fn first_heard(
@@ -45,7 +42,7 @@ fn first_heard(
         return conclude(packet, out, m, false, false, no_route());
     }
     if cells[CAPACITY] <= cells[RECORDS] {
-        return refused(refusal(RECORDS_FULL));
+        return refused(refusal(ORIGINATORS_FULL));
     }
     make_record(cells, i, m.originator, m.link, m.sequence, m.ttl, m.time);
     cells[TIME] = m.time;

@@ -7,6 +7,7 @@ use record::route_of;
 use rules::Asked;
 use rules::Route;
 use table::well_formed;
+use wire::refusals::NOT_WELL_FORMED;
 ghost use mathlib.Core.Path.{_≡_};
 ghost use Rattle.lists.specs.Keyed.{lookup};
 ghost use Rattle.rules.specs.Calls.{ask, asked, answered, noRoute};
@@ -15,9 +16,6 @@ ghost use Rattle.rules.specs.Table.{table};
 ghost use Rattle.layout.specs.Cells.{decode};
 ghost use Rattle.layout.specs.Facts.{Knows};
 ghost use Rattle.layout.specs.Calls.{callOn};
-
-// The refusal of a table that is not well-formed.
-pub const NOT_WELL_FORMED: u64 = 1;
 
 // No route: all zeros.
 pub fn no_route() -> Route

@@ -15,6 +15,7 @@ use own_packets::own_header;
 use packets::output::write_packet;
 use rules::Written;
 use table::well_formed;
+use wire::refusals::NOT_WELL_FORMED;
 ghost use mathlib.Core.Path.{_≡_};
 ghost use Prim.Native.Nat.{_+_, _≤_, _<_};
 ghost use lib.ListN.{length, set, getD};
@@ -32,9 +33,6 @@ ghost use Rattle.changes.specs.Performed.{Performed};
 ghost use Rattle.neighbours.specs.Neighbours.{staysAfter};
 ghost use Rattle.own_packets.specs.OwnPacket.{args};
 ghost use Rattle.sending.specs.Sending.{RowsPart, Sent, refusedBy};
-
-// The refusal number of a table that is not well-formed.
-const NOT_WELL_FORMED: u64 = 1;
 
 // An interface has sent a number.
 fn row_sent(row: &mut [u64], number: u16)

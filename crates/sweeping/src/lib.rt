@@ -8,6 +8,8 @@ use moves::move_down;
 use record::WIDTH;
 use rules::Swept;
 use table::well_formed;
+use wire::refusals::NOT_WELL_FORMED;
+use wire::refusals::TIME_BEFORE;
 ghost use mathlib.Core.Path.{_≡_};
 ghost use mathlib.Core.Bool.{not};
 ghost use mathlib.Core.List.{[]};
@@ -22,11 +24,6 @@ ghost use Rattle.sweeping.specs.Sweeping.{RecordsHeld, Kept, SweptBy, re
 
 // Where a record's time stands in its row.
 const SEEN: usize = record::TIME;
-
-// The refusal numbers.
-const NOT_WELL_FORMED: u64 = 1;
-
-const TIME_BEFORE: u64 = 3;
 
 // Whether a time is at most the purge timeout ago.
 fn is_recent(seen: u64, time: u64, purge: u64) -> bool

@@ -8,7 +8,7 @@ ghost use Rattle.window.specs.Window as W;
 const WORD: u64 = 64;
 
 // How many sequence numbers there are.
-const NUMBERS: u64 = 65536;
+pub const NUMBERS: u64 = 65536;
 
 // How far n lies below current, modulo 65,536.
 pub fn distance(current: u16, n: u16) -> u64

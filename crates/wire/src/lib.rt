@@ -1,4 +1,6 @@
 // The octets on the air: what a packet says, and what is refused of it.
+pub mod refusals;
+
 ghost use mathlib.Core.Path.{_≡_};
 ghost use Rattle.wire.specs.Check.{numbered};
 
