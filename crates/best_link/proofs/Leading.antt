@@ -1,6 +1,6 @@
 -- The search for the highest link, turn by turn. Assumes nothing.
 use mathlib.Core.Path.{_≡_, refl, sym, ap, _∙_}
-use mathlib.Core.List.{List, [], _∷_, map}
+use mathlib.Core.List.{List, [], _∷_}
 use mathlib.Core.Bool.{Bool, true, false, cond, _&&_, _||_, and-true, and-false}
 use Prim.Native.Nat.{ℕ, _+_, _-_, _≤_, _<_}
 use native.Mathlib.Omega.{arith}
@@ -8,9 +8,7 @@ use lib.Dec.{eqb}
 use lib.ListN.{drop, getD}
 use borrow.Author.Tests.{eq-eqb}
 use Rattle.lists.specs.Keyed.{mapValues}
-use Rattle.cells.specs.Pairs.{pairOf}
-use Rattle.cells.proofs.Keys.{rows-one, rows-none}
-use Rattle.cells.proofs.Pairs.{pair-at}
+use Rattle.cells.proofs.Pairs.{pairs-one, pairs-none}
 use Rattle.window.specs.Window.{shift, count}
 use Rattle.rules.specs.Settings.{Config, linkCells}
 use Rattle.rules.specs.Table.{isHighest}
@@ -41,9 +39,7 @@ module _ (c : List ℕ) (w d at left v : ℕ) (h : 0 < left) (e : v ≡ shift w 
   more = moved w d (left - 1) (drop (at + linkCells) c)
 
   pub moved-one : moved w d left (drop at c) ≡ (getD c at 0, v) ∷ more
-  moved-one =
-      ap (λ (rs : List (List ℕ)). mapValues (shift w d) (map pairOf rs)) (rows-one linkCells c at left h)
-      ∙ (λ i. (pair-at c at i .0, (ap (λ (x : ℕ × ℕ). shift w d (x .1)) (pair-at c at) ∙ sym e) i) ∷ more)
+  moved-one = ap (mapValues (shift w d)) (pairs-one c at left h) ∙ ap (λ (x : ℕ). (getD c at 0, x) ∷ more) (sym e)
 
   -- it stands higher or not
   pub highest-one : (κ : Config) (key marks : ℕ) {high : ℕ} {t : Bool} → high ≡ count marks → yields κ key high (getD c at 0, v) ≡ t
@@ -71,4 +67,4 @@ module _ (c : List ℕ) (w d at left v : ℕ) (h : 0 < left) (e : v ≡ shift w 
           }
 
 pub moved-none : (c : List ℕ) (w d at left : ℕ) → left ≤ 0 → moved w d left (drop at c) ≡ []
-moved-none c w d at left h = ap (λ (rs : List (List ℕ)). mapValues (shift w d) (map pairOf rs)) (rows-none linkCells c at left h)
+moved-none c w d at left h = ap (mapValues (shift w d)) (pairs-none c at left h)

@@ -2,7 +2,7 @@
 use mathlib.Core.Path.{_≡_, refl, ap, _∙_}
 use mathlib.Core.List.{List, [], _∷_, map}
 use mathlib.Core.Bool.{true}
-use Prim.Native.Nat.{ℕ, zero, suc, _+_, _*_, _≤_, _<_}
+use Prim.Native.Nat.{ℕ, zero, suc, _+_, _*_, _-_, _≤_, _<_}
 use native.Mathlib.Nat.{add-zero, not-suc-le-zero, le-of-suc-le-suc}
 use native.Mathlib.Omega.{arith}
 use lib.ListN.{length, take, drop, getD}
@@ -10,7 +10,7 @@ use lib.Seq.{getD-drop}
 use Rattle.lists.proofs.Lists.{all-true}
 use Rattle.cells.specs.Area.{rowsOf, allZero}
 use Rattle.cells.specs.Pairs.{pairCells, pairRow, pairOf, pairArea, pairsOf}
-use Rattle.cells.proofs.Keys.{row-cell}
+use Rattle.cells.proofs.Keys.{row-cell, rows-one, rows-none}
 use Rattle.cells.proofs.Trips.{area-trip, rows-area, rest-area, map-back, length-decoded}
 
 pub pair-wide : (e : ℕ × ℕ) → length (pairRow e) ≡ pairCells
@@ -39,6 +39,13 @@ length-pairs n c = length-decoded pairOf pairCells n c
 -- the pair at place `at`
 pub pair-at : (c : List ℕ) (at : ℕ) → pairOf (take pairCells (drop at c)) ≡ (getD c at 0, getD c (at + 1) 0)
 pair-at c at = λ i. ((row-cell pairCells c at 0 (omega arith) ∙ ap (λ (k : ℕ). getD c k 0) (add-zero at)) i, row-cell pairCells c at 1 (omega arith) i)
+
+-- `left` pairs from place `at` on: the first of them, or none
+pub pairs-one : (c : List ℕ) (at left : ℕ) → 0 < left → pairsOf left (drop at c) ≡ (getD c at 0, getD c (at + 1) 0) ∷ pairsOf (left - 1) (drop (at + pairCells) c)
+pairs-one c at left h = ap (map pairOf) (rows-one pairCells c at left h) ∙ ap (λ (e : ℕ × ℕ). e ∷ pairsOf (left - 1) (drop (at + pairCells) c)) (pair-at c at)
+
+pub pairs-none : (c : List ℕ) (at left : ℕ) → left ≤ 0 → pairsOf left (drop at c) ≡ []
+pairs-none c at left h = ap (map pairOf) (rows-none pairCells c at left h)
 
 -- pair i
 pub pair-of : (n : ℕ) (c : List ℕ) (i : ℕ) (d : ℕ × ℕ) → i < n → getD (pairsOf n c) i d ≡ (getD c (i * pairCells) 0, getD c (i * pairCells + 1) 0)

@@ -12,9 +12,8 @@ use Rattle.lists.specs.Keyed.{mapValues}
 use Rattle.cells.specs.Area.{fit, zeros, flat}
 use Rattle.cells.specs.Pairs.{pairCells, pairRow, pairOf, pairsOf}
 use Rattle.cells.proofs.Areas.{fit-at, fit-zeros, length-fit, length-rows, rows-append}
-use Rattle.cells.proofs.Keys.{rows-one, rows-none}
 use Rattle.cells.proofs.Lent.{tail-is}
-use Rattle.cells.proofs.Pairs.{pair-wide, pair-at}
+use Rattle.cells.proofs.Pairs.{pair-wide}
 use Rattle.window.specs.Window.{shift}
 use Rattle.best_link.proofs.Leading.{moved-one}
 use Rattle.rules.specs.Settings.{linkCells}

@@ -19,8 +19,8 @@ use Rattle.cells.specs.Pairs.{pairCells, pairRow, pairOf, pairArea, pairsOf}
 use Rattle.cells.specs.Find.{Sorted, IsAt, IsPlace}
 use Rattle.cells.proofs.Areas.{length-area, length-rows, fit-zeros, put-row, write-row}
 use Rattle.lists.proofs.Lists.{keep-all}
-use Rattle.cells.proofs.Keys.{length-column, rows-one, rows-none}
-use Rattle.cells.proofs.Pairs.{pair-wide, pair-at, length-pairs}
+use Rattle.cells.proofs.Keys.{length-column}
+use Rattle.cells.proofs.Pairs.{pair-wide, length-pairs, pairs-one, pairs-none}
 use Rattle.cells.proofs.Search.{Among, Apart, sorted, found-at, found-place, put-among, put-apart, at-below}
 use Rattle.cells.proofs.Compact.{Turn, Pass, pass-start, pass-turn, pass-dropped, pass-moved, pass-along, pass-done, pass-left, pass-size}
 use Rattle.rules.specs.Settings.{neighbourMost, isNumber}
@@ -81,17 +81,12 @@ module _ (n : ℕ) (c : List ℕ) (h : RowsHeld n c) where
 
 -- ---- rows read one by one: `left` rows from place `at` on
 
-module _ (c : List ℕ) (at left : ℕ) (more : 0 < left) where
-  pairs-one : pairsOf left (drop at c) ≡ (getD c at 0, getD c (at + 1) 0) ∷ pairsOf (left - 1) (drop (at + pairCells) c)
-  pairs-one =
-      ap (map pairOf) (rows-one pairCells c at left more)
-      ∙ ap (λ (e : ℕ × ℕ). e ∷ pairsOf (left - 1) (drop (at + pairCells) c)) (pair-at c at)
-
-  pub all-one : (p : ℕ × ℕ → Bool) → all p (pairsOf left (drop at c)) ≡ p (getD c at 0, getD c (at + 1) 0) && all p (pairsOf (left - 1) (drop (at + pairCells) c))
-  all-one p = ap (all p) pairs-one
+pub all-one : (c : List ℕ) (at left : ℕ) → 0 < left → (p : ℕ × ℕ → Bool)
+    → all p (pairsOf left (drop at c)) ≡ p (getD c at 0, getD c (at + 1) 0) && all p (pairsOf (left - 1) (drop (at + pairCells) c))
+all-one c at left more p = ap (all p) (pairs-one c at left more)
 
 pub all-none : (c : List ℕ) (at left : ℕ) (p : ℕ × ℕ → Bool) → left ≤ 0 → all p (pairsOf left (drop at c)) ≡ true
-all-none c at left p h = ap (λ (l : List (List ℕ)). all p (map pairOf l)) (rows-none pairCells c at left h)
+all-none c at left p h = ap (all p) (pairs-none c at left h)
 
 -- where every row stays, nothing changes
 pub all-kept : (n i last B : ℕ) (c : List ℕ) → RowsHeld n c → all (staysAfter i last B) (pairsOf n c) ≡ true

@@ -15,8 +15,8 @@ use Rattle.cells.specs.Area.{allZero, rowsOf, scan}
 use Rattle.cells.specs.Pairs.{pairOf, pairsOf}
 use Rattle.lists.proofs.Tests.{and-left, and-right, and-at}
 use Rattle.lists.proofs.Lists.{all-map}
-use Rattle.cells.proofs.Keys.{rows-one, rows-none, scan-next, scan-stop, scan-end, scan-is}
-use Rattle.cells.proofs.Pairs.{pair-at, length-pairs}
+use Rattle.cells.proofs.Keys.{scan-next, scan-stop, scan-end, scan-is}
+use Rattle.cells.proofs.Pairs.{pair-at, length-pairs, pairs-one, pairs-none}
 use Rattle.window.specs.Window.{hasMark}
 use Rattle.rules.specs.Settings.{Config, linkMost, linkCells, recordHeadCells, within, isAddress, isNumber, isOctet, isOwn}
 use Rattle.rules.specs.Calls.{interfaceOf}
@@ -101,10 +101,10 @@ pub held-next : (best : ℕ) (held : Bool) (c : List ℕ) (at left : ℕ) → 0 
 held-next best held c at left h =
     let rest = pairsOf (left - 1) (drop (at + linkCells) c) in
     or-assoc held (eqb best (getD c at 0)) (hasKey best rest)
-    ∙ ap (λ (b : Bool). held || b) (sym (ap (hasKey best) (ap (map pairOf) (rows-one linkCells c at left h) ∙ ap (λ (l : ℕ × ℕ). l ∷ rest) (pair-at c at)) ∙ has-cons best (getD c at 0, getD c (at + 1) 0) rest))
+    ∙ ap (λ (b : Bool). held || b) (sym (ap (hasKey best) (pairs-one c at left h) ∙ has-cons best (getD c at 0, getD c (at + 1) 0) rest))
 
 pub held-end : (best : ℕ) (held : Bool) (c : List ℕ) (at left : ℕ) → left ≤ 0 → held ≡ held || hasKey best (pairsOf left (drop at c))
-held-end best held c at left h = sym (or-false held) ∙ ap (λ (l : List (List ℕ)). held || hasKey best (map pairOf l)) (sym (rows-none linkCells c at left h))
+held-end best held c at left h = sym (or-false held) ∙ ap (λ (l : List (ℕ × ℕ)). held || hasKey best l) (sym (pairs-none c at left h))
 
 pub links-done : (κ : Config) (best : ℕ) (c : List ℕ) (n : ℕ) (t h : Bool) → t ≡ scan (linkRow κ best) 0 (rowsOf linkCells n c) → (t ≡ true → h ≡ hasKey best (pairsOf n c)) → t && h ≡ linksOk κ best (pairsOf n c)
 links-done κ best c n t h et eh =
