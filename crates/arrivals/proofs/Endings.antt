@@ -18,7 +18,7 @@ use Rattle.wire.specs.PassOn.{flagsHere, flagsElsewhere, passedOn}
 use Rattle.rules.specs.declared.Received.{Received}
 use Rattle.rules.specs.declared.Route.{Route}
 use Rattle.rules.specs.Settings.{ttlLeast}
-use Rattle.rules.specs.Calls.{linkOf, ReceiveArgs, receive, received, refusal, Reply}
+use Rattle.rules.specs.Calls.{linkOf, ReceiveArgs, receive, received, refusal}
 use Rattle.rules.specs.Rules.{OutcomeOf, linkBy, withTime, refuse, verdict, conclude, isPassedOn, routeOf}
 use Rattle.rules.specs.Table.{TableRecord, TableState, table}
 use Rattle.rules.specs.WellFormed.{wellFormed}

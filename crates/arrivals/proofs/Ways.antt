@@ -1,26 +1,25 @@
 -- The ways through the rules of receiving: one law each, from what the tests said to the outcome. Assumes nothing.
-use mathlib.Core.Path.{_≡_, refl, sym, ap, _∙_}
+use mathlib.Core.Path.{_≡_, refl, sym}
 use mathlib.Core.Bool.{Bool, true, false, _&&_, _||_, not}
 use mathlib.Core.Logic.{_⊎_, inl, inr}
 use mathlib.Core.Option.{Option, none, some}
 use mathlib.Core.List.{List, [], _∷_}
 use Prim.Native.Nat.{ℕ, _≤_, _<_}
-use lib.Dec.{ltb, leb, eqb}
+use lib.Dec.{eqb}
 use lib.ListN.{length}
 use native.Mathlib.Omega.{arith}
 use borrow.Author.Tests.{lt-ltb, le-ltb, le-leb, lt-leb}
-use Rattle.lists.specs.Lists.{maybe}
-use Rattle.lists.specs.Keyed.{lookup, hasKey, put, mapValues}
+use Rattle.lists.specs.Keyed.{lookup, hasKey, put}
 use Rattle.lists.proofs.Keyed.{lookup-put, length-mapValues}
 use Rattle.lists.proofs.Lists.{keep-length}
 use Rattle.window.specs.Window.{distance, mark, count, hasMark}
 use Rattle.wire.specs.declared.Header.{Header}
 use Rattle.wire.specs.declared.Fault.{Fault}
 use Rattle.wire.specs.Packet.{header, isU}
-use Rattle.wire.specs.Check.{given, numbered}
+use Rattle.wire.specs.Check.{numbered}
 use Rattle.rules.specs.Settings.{Config, neighbourMost, linkMost, isOwn, isBroadcast}
-use Rattle.rules.specs.Calls.{ReceiveArgs, receive, noRoute}
-use Rattle.rules.specs.Rules.{Ogm, sequenceOf, OutcomeOf, branch, unless, receiveFault, linkBy, message, isEcho, isDuplicate, withTime, withRows, withRecords, refuse, verdict, conclude, isPassedOn, routeOf, storeCounted, counted, uncounted, decide, takeEcho, judge, step}
+use Rattle.rules.specs.Calls.{ReceiveArgs, receive}
+use Rattle.rules.specs.Rules.{Ogm, sequenceOf, OutcomeOf, branch, unless, receiveFault, linkBy, message, isEcho, isDuplicate, withTime, withRows, withRecords, refuse, verdict, storeCounted, counted, uncounted, decide, takeEcho, judge, step}
 use Rattle.rules.specs.Table.{TableRecord, TableState, settle, firstRecord, nextRecord, recordEcho, table}
 use Rattle.arrivals.specs.Receiving.{ownMessage, foreign, concluded}
 

@@ -1,15 +1,15 @@
 -- Rows taken out of an area in one pass that moves each kept row down once: a turn of such a loop, for any width and any test. Assumes nothing.
 use mathlib.Core.Path.{_≡_, refl, sym, ap, ap₂, _∙_}
-use mathlib.Core.Bool.{Bool, true, false, cond, _&&_}
+use mathlib.Core.Bool.{Bool, true, false}
 use mathlib.Core.List.{List, [], _∷_, _++_, map, append-assoc, append-nil}
-use Prim.Native.Nat.{ℕ, zero, suc, _+_, _-_, _*_, _≤_, _<_}
+use Prim.Native.Nat.{ℕ, suc, _+_, _-_, _*_, _≤_, _<_}
 use native.Mathlib.Nat.{mul-le-mul-right}
 use native.Mathlib.Omega.{arith}
 use lib.ListN.{length, take, drop, getD, length-append, length-drop, List·getD-append}
 use lib.Seq.{drop-at, drop-append-add, take-append-seam, drop-append-seam, drop-append-le, getD-append-add, length-take-le}
 use borrow.Rule.Slice.PartMut.{putMid}
 use Rattle.lists.specs.Lists.{keep, all}
-use Rattle.cells.specs.Area.{fit, zeros, flat, area, written}
+use Rattle.cells.specs.Area.{zeros, flat, area, written}
 use Rattle.lists.proofs.Tests.{and-left, and-right}
 use Rattle.cells.proofs.Areas.{length-fit, fit-nil-fit, fit-zeros, rows-append, length-rows, length-area}
 use Rattle.cells.proofs.Keys.{one-row}

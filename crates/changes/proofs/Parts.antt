@@ -1,22 +1,20 @@
 -- A table's cells in parts: what a lent part holds, and what the table is once a part or a cell is changed. Assumes nothing.
 use mathlib.Core.Path.{_≡_, refl, sym, ap, ap₂, _∙_}
-use mathlib.Core.List.{List, [], _∷_, _++_, append-assoc, append-nil}
-use Prim.Native.Nat.{ℕ, suc, _+_, _-_, _*_, _≤_, _<_}
+use mathlib.Core.List.{List, [], _++_, append-assoc, append-nil}
+use Prim.Native.Nat.{ℕ, _+_, _-_, _≤_}
 use native.Mathlib.Omega.{arith}
-use lib.ListN.{length, take, drop, set, getD, length-append, drop-of-length-le}
-use lib.Seq.{take-at, drop-at, set-append-left, set-at}
+use lib.ListN.{length, take, drop, set, length-append, drop-of-length-le}
+use lib.Seq.{take-at, drop-at}
 use borrow.Rule.Slice.PartMut.{putMid}
-use Rattle.cells.specs.Area.{area}
 use Rattle.cells.specs.Pairs.{pairArea, pairCells, pairRow}
 use Rattle.cells.proofs.Areas.{length-area}
 use Rattle.cells.proofs.Pairs.{pair-wide}
-use Rattle.rules.specs.Settings.{interfaceMost, neighbourMost, interfaceCells, recordCells}
-use Rattle.rules.specs.Rules.{Sends}
+use Rattle.rules.specs.Settings.{interfaceMost, neighbourMost, interfaceCells}
 use Rattle.rules.specs.Table.{TableRows, TableRecord, TableState}
 use Rattle.layout.specs.Layout.{timeAt, rowsAt, recordsAt, neighboursFrom, recordsFrom}
 use Rattle.layout.specs.Interfaces.{InterfaceRow, rowsWith, encodeInterface}
 use Rattle.layout.specs.Cells.{headOf, interfaceArea, recordArea, encode}
-use Rattle.changes.specs.Changes.{withTime, withSends, withRows, withRecords}
+use Rattle.changes.specs.Changes.{withTime, withRows, withRecords}
 
 -- ---- a head of 9 cells, 20 cells of interface rows, 64 of neighbour rows, and records
 

@@ -6,7 +6,7 @@ use Prim.Native.Nat.{ℕ}
 use lib.ListN.{length}
 use Rattle.wire.specs.declared.Fault.{Fault}
 use Rattle.wire.specs.Check.{numbered}
-use Rattle.rules.specs.Calls.{Call, Answer, Reply, refusal}
+use Rattle.rules.specs.Calls.{Call, Answer, refusal}
 use Rattle.rules.specs.Rules.{Outcome, branch, refuse, step}
 use Rattle.rules.specs.Table.{TableRows, TableRecord, table}
 use Rattle.layout.specs.Cells.{encode, decode, wellFormed}

@@ -1,15 +1,12 @@
 -- An interface that has sent a number: its row in the cells, and the rules' last sent numbers. Assumes nothing.
 use mathlib.Core.Path.{_≡_, refl, sym, ap, ap₂, _∙_}
-use mathlib.Core.Bool.{Bool, true, false}
 use mathlib.Core.List.{List, [], _∷_, _++_, append-assoc}
 use mathlib.Core.Option.{Option, none, some}
 use Prim.Native.Nat.{ℕ, zero, suc, _+_, _-_, _*_, _≤_, _<_}
 use native.Mathlib.Nat.{zero-add, not-suc-le-zero, le-of-suc-le-suc}
-use native.Mathlib.Numerals.{add-one}
 use native.Mathlib.Omega.{arith}
 use borrow.Author.Tests.{ne-eqb}
-use lib.Dec.{eqb}
-use lib.ListN.{length, take, drop, set, getD, length-append, length-drop}
+use lib.ListN.{length, take, drop, set, getD, length-drop}
 use lib.Seq.{take-append-add, take-append-le, drop-append-add, drop-append-le, drop-drop}
 use borrow.Rule.Slice.PartMut.{putMid}
 use Rattle.lists.specs.Keyed.{lookup, put}
@@ -21,7 +18,7 @@ use Rattle.rules.specs.Table.{TableState}
 use Rattle.cells.specs.Area.{area, written}
 use Rattle.cells.specs.Pairs.{pairArea}
 use Rattle.cells.proofs.Areas.{length-area, read-row, write-row}
-use Rattle.layout.specs.Layout.{sentAt, lastAt, interfacesFrom, ownPlace}
+use Rattle.layout.specs.Layout.{sentAt, lastAt, ownPlace}
 use Rattle.layout.specs.Interfaces.{InterfaceRow, rowsWith, encodeInterface}
 use Rattle.layout.specs.Cells.{headOf, interfaceArea, recordArea, encode}
 use Rattle.changes.specs.Changes.{withSends}

@@ -9,8 +9,8 @@ use Rattle.rules.specs.Rules.{branch, step}
 use Rattle.rules.specs.Table.{TableState, table}
 use Rattle.rules.specs.WellFormed as R
 use Rattle.rules.proofs.WellFormed.{wellFormed-step}
-use Rattle.layout.specs.Cells.{encode, decode, wellFormed}
-use Rattle.layout.specs.Calls.{Done, asks, unasked, refused, stepped, callOn}
+use Rattle.layout.specs.Cells.{decode, wellFormed}
+use Rattle.layout.specs.Calls.{asks, unasked, refused, stepped, callOn}
 use Rattle.layout.proofs.Encoding.{laws}
 
 pub stays : (c : List ℕ) (call : Call) → R.typed call ≡ true → wellFormed c ≡ true → wellFormed (callOn c call .cells) ≡ true

@@ -21,10 +21,10 @@ use Rattle.rules.proofs.Config.{make-allowed}
 use Rattle.rules.proofs.Faults.{none-at, not-given}
 use Rattle.rules.proofs.Exactly.{step-keeps}
 use Rattle.rules.proofs.WellFormed.{wellFormed-step, wellFormed-fresh}
-use Rattle.layout.specs.Cells.{encode, decode, configIn, recordsIn, wellFormed}
+use Rattle.layout.specs.Cells.{encode, decode, wellFormed}
 use Rattle.layout.specs.Calls.{Done, callOn, stepped}
 use Rattle.layout.proofs.Parts.{length-encode}
-use Rattle.layout.proofs.Encoding.{laws, cells-size}
+use Rattle.layout.proofs.Encoding.{laws}
 use Rattle.layout.proofs.Calls.{goes-on, turned-away}
 use Rattle.history.specs.Book.{book}
 use Rattle.history.specs.History.{after, replies}

@@ -1,31 +1,27 @@
 -- The row that an echo's link takes. Assumes nothing.
-use mathlib.Core.Path.{_≡_, refl, sym, ap, _∙_, subst}
+use mathlib.Core.Path.{_≡_, sym, ap, _∙_}
 use mathlib.Core.Logic.{_⊎_, inl, inr, ⊎-elim}
-use mathlib.Core.Bool.{Bool, true, false, _&&_}
+use mathlib.Core.Bool.{true}
 use mathlib.Core.List.{List}
-use Prim.Native.Nat.{ℕ, _<_, _≤_}
+use Prim.Native.Nat.{ℕ, _<_}
 use native.Mathlib.Omega.{arith}
 use borrow.Author.Tests.{eqb-true}
 use borrow.Rule.Slice.PartMut.{putMid, put-same}
-use lib.Dec.{eqb}
-use lib.ListN.{length, take, drop, set, getD}
-use Rattle.lists.specs.Lists.{and, all}
+use lib.ListN.{length, set, getD}
 use Rattle.lists.specs.Keyed.{hasKey, put}
 use Rattle.lists.proofs.Tests.{and-at}
 use Rattle.cells.specs.Pairs.{pairArea, pairsOf}
 use Rattle.cells.proofs.Pairs.{length-pairs}
 use Rattle.wire.specs.Packet.{header}
 use Rattle.wire.specs.Check.{numbered}
-use Rattle.rules.specs.Settings.{interfaceMost, neighbourMost, isNumber}
-use Rattle.rules.specs.Calls.{linkOf, interfaceOf, receive}
+use Rattle.rules.specs.Settings.{interfaceMost, neighbourMost}
+use Rattle.rules.specs.Calls.{interfaceOf, receive}
 use Rattle.rules.specs.Rules.{lastSent, linkBy, echoTests, isEcho, withRows, refuse, verdict, takeEcho}
 use Rattle.rules.specs.Table.{TableRows, TableState, recordEcho, table}
-use Rattle.rules.specs.WellFormed.{rowTests, wellFormed}
+use Rattle.rules.specs.WellFormed.{wellFormed}
 use Rattle.rules.proofs.Links.{interface-of}
-use Rattle.rules.proofs.WellFormed.{Wf, parts}
-use Rattle.layout.specs.Layout.{rowsAt, timeAt, neighboursFrom, neighbourPart}
+use Rattle.layout.specs.Layout.{rowsAt, timeAt, neighboursFrom}
 use Rattle.layout.specs.Cells.{encode, decode}
-use Rattle.layout.specs.Facts.{Knows}
 use Rattle.changes.specs.Changes as changed
 use Rattle.changes.proofs.Parts.{time-set, rows-back}
 use Rattle.neighbours.specs.Neighbours.{Recorded, NoRoom}

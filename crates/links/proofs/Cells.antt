@@ -8,7 +8,6 @@ use native.Mathlib.Omega.{arith}
 use lib.ListN.{length, take, drop, set, getD, length-append, length-set}
 use lib.Seq.{set-at, append-snoc, drop-drop}
 use Rattle.lists.specs.Lists.{keep}
-use Rattle.lists.specs.Keyed.{mapValues}
 use Rattle.cells.specs.Area.{fit, zeros, flat}
 use Rattle.cells.specs.Pairs.{pairCells, pairRow, pairOf, pairsOf}
 use Rattle.cells.proofs.Areas.{fit-at, fit-zeros, length-fit, length-rows, rows-append}
@@ -17,7 +16,7 @@ use Rattle.cells.proofs.Pairs.{pair-wide}
 use Rattle.window.specs.Window.{shift}
 use Rattle.best_link.proofs.Leading.{moved-one}
 use Rattle.rules.specs.Settings.{linkCells}
-use Rattle.best_link.specs.BestLink.{Links, moved, yields}
+use Rattle.best_link.specs.BestLink.{Links, moved}
 use Rattle.links.specs.Links.{stays, scratchCells, Blank, Built}
 
 -- ---- a link written after others

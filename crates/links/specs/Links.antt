@@ -1,15 +1,15 @@
 -- A name for a part of the rules' `settle`, and what the steps of counting leave of a record's links. This link is the one that the message came by.
 use Prim.Native.Nat.{ℕ, _+_, _*_, _≤_}
 use mathlib.Core.Path.{_≡_}
-use mathlib.Core.Bool.{Bool, cond, _||_}
+use mathlib.Core.Bool.{Bool, _||_}
 use mathlib.Core.List.{List, [], _∷_, _++_, map}
 use lib.Dec.{ltb, eqb}
 use lib.ListN.{length, take, drop}
 use Rattle.lists.specs.Lists.{keep}
-use Rattle.lists.specs.Keyed.{put, mapValues}
+use Rattle.lists.specs.Keyed.{put}
 use Rattle.cells.specs.Area.{fit, zeros, flat}
-use Rattle.cells.specs.Pairs.{pairRow, pairsOf}
-use Rattle.window.specs.Window.{shift, mark, count, hasMark}
+use Rattle.cells.specs.Pairs.{pairRow}
+use Rattle.window.specs.Window.{mark, hasMark}
 use Rattle.rules.specs.Settings.{Config, linkMost, linkCells}
 use Rattle.rules.specs.Table.{marksAt}
 use Rattle.best_link.specs.BestLink.{Links, chosen}

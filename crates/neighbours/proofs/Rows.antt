@@ -1,27 +1,26 @@
 -- Neighbour rows found, recorded and dropped in their area, as the rules' keyed list sees it. Assumes nothing.
-use mathlib.Core.Path.{_≡_, refl, sym, ap, ap₂, _∙_, subst}
-use mathlib.Core.Logic.{_⊎_, inl, inr}
-use mathlib.Core.Bool.{Bool, true, false, cond, not, _&&_, _||_}
-use mathlib.Core.List.{List, [], _∷_, _++_, map}
-use mathlib.Core.Option.{Option, none, some}
-use Prim.Native.Nat.{ℕ, suc, _+_, _-_, _*_, _≤_, _<_}
+use mathlib.Core.Path.{_≡_, refl, sym, ap, _∙_, subst}
+use mathlib.Core.Logic.{inl, inr}
+use mathlib.Core.Bool.{Bool, true, false, _&&_}
+use mathlib.Core.List.{List, [], _∷_}
+use mathlib.Core.Option.{Option}
+use Prim.Native.Nat.{ℕ, _+_, _-_, _*_, _≤_, _<_}
 use native.Mathlib.Nat.{add-zero}
 use native.Mathlib.Omega.{arith}
 use borrow.Author.Tests.{ltb-true}
-use lib.Dec.{ltb, eqb}
 use lib.ListN.{length, take, drop, getD, set, length-append, length-drop, length-set}
 use lib.Seq.{length-take-le}
 use borrow.Rule.Slice.PartMut.{putMid}
 use Rattle.lists.specs.Lists.{maybe, keep, all}
-use Rattle.lists.specs.Keyed.{lookup, hasKey, put}
-use Rattle.cells.specs.Area.{flat, fit, zeros, column, rowsOf, written, putIn, insertAt}
+use Rattle.lists.specs.Keyed.{hasKey, put}
+use Rattle.cells.specs.Area.{zeros, column, written, putIn, insertAt}
 use Rattle.cells.specs.Pairs.{pairCells, pairRow, pairOf, pairArea, pairsOf}
 use Rattle.cells.specs.Find.{Sorted, IsAt, IsPlace}
-use Rattle.cells.proofs.Areas.{length-area, length-rows, fit-zeros, put-row, write-row}
+use Rattle.cells.proofs.Areas.{length-area, put-row, write-row}
 use Rattle.lists.proofs.Lists.{keep-all}
 use Rattle.cells.proofs.Keys.{length-column}
 use Rattle.cells.proofs.Pairs.{pair-wide, length-pairs, pairs-one, pairs-none}
-use Rattle.cells.proofs.Search.{Among, Apart, sorted, found-at, found-place, put-among, put-apart, at-below}
+use Rattle.cells.proofs.Search.{Apart, sorted, found-at, found-place, put-among, put-apart, at-below}
 use Rattle.cells.proofs.Compact.{Turn, Pass, pass-start, pass-turn, pass-dropped, pass-moved, pass-along, pass-done, pass-left, pass-size}
 use Rattle.rules.specs.Settings.{neighbourMost, isNumber}
 use Rattle.neighbours.specs.Neighbours.{RowsHeld, Recorded, NoRoom, staysAfter}

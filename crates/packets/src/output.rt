@@ -9,7 +9,7 @@ ghost use mathlib.Core.Bool.{cond};
 ghost use Prim.Native.Nat.{_+_, _≤_, _<_};
 ghost use lib.ListN.{length};
 ghost use Rattle.lists.specs.Lists.{writtenTo};
-ghost use Rattle.wire.specs.Layout.{headerSize, flagsAt, ttlAt};
+ghost use Rattle.wire.specs.Layout.{headerSize, ttlAt};
 ghost use Rattle.wire.specs.Packet as P;
 ghost use Rattle.wire.specs.PassOn as O;
 

@@ -1,7 +1,7 @@
 -- Messages of other nodes: whether one is counted, and what that leaves. Assumes nothing.
-use mathlib.Core.Path.{_≡_, refl, sym, ap, _∙_, subst}
+use mathlib.Core.Path.{_≡_, sym, ap, _∙_, subst}
 use mathlib.Core.Bool.{Bool, true, false, cond, _&&_, _||_, not}
-use mathlib.Core.Option.{Option, none, some}
+use mathlib.Core.Option.{Option, none}
 use mathlib.Core.List.{List}
 use Prim.Native.Nat.{ℕ, _%_, _≤_, _<_}
 use native.Mathlib.Nat.{mod-eq-of-lt}
@@ -18,7 +18,7 @@ use Rattle.rules.specs.declared.Received.{Received}
 use Rattle.rules.specs.declared.Route.{Route}
 use Rattle.rules.specs.Settings.{linkMost, ttlLeast}
 use Rattle.rules.specs.Calls.{receive, noRoute}
-use Rattle.rules.specs.Rules.{Ogm, linkBy, message, isDuplicate, isPassedOn, routeOf, withTime, refuse, conclude, counted, storeCounted, decide}
+use Rattle.rules.specs.Rules.{Ogm, message, isDuplicate, isPassedOn, routeOf, withTime, refuse, conclude, counted, storeCounted, decide}
 use Rattle.rules.specs.Table.{TableRecord, TableState, firstRecord, nextRecord, isMarked, table}
 use Rattle.record.specs.Record.{decodeRecord}
 use Rattle.layout.specs.Layout.{timeAt, capacityAt, recordsAt}
@@ -30,8 +30,8 @@ use Rattle.changes.proofs.Parts.{time-set}
 use Rattle.originators.specs.Originators.{heldBy, Stands, Missing, countedAt, CountedIn}
 use Rattle.originators.proofs.Changed.{records-count, written-at, in-at}
 use Rattle.arrivals.specs.declared.Arrival.{Arrival}
-use Rattle.arrivals.specs.Receiving.{callOf, after, Replies, Leaves, Fits, Taken, Ruled, Decides, Counts, concluded}
-use Rattle.arrivals.proofs.Ways.{holding, concludes, way-counted, way-uncounted, way-10, way-first, way-next, first-few, way-11, way-stored}
+use Rattle.arrivals.specs.Receiving.{callOf, after, Replies, Leaves, Fits, Taken, Decides, Counts, concluded}
+use Rattle.arrivals.proofs.Ways.{holding, way-counted, way-uncounted, way-10, way-first, way-next, first-few, way-11, way-stored}
 use Rattle.arrivals.proofs.Tables.{time-cells}
 use Rattle.arrivals.proofs.Endings.{link-is, ttl-is, sequence-is, originator-is, leaves-by, Concludes, concludes-by}
 

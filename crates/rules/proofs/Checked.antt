@@ -6,7 +6,7 @@ use mathlib.Core.List.{List, [], _∷_, List·Memᴰ, List·Memᴰ·head, List·
 use lib.Dec.{eqb}
 use mathlib.Core.Option.{none}
 use native.Mathlib.Omega.{arith}
-use lib.ListN.{length, drop, replicate, getD-replicate}
+use lib.ListN.{drop, replicate, getD-replicate}
 use lib.Count.{ones, onesIn}
 use borrow.Author.Tests.{eqb-true}
 use Rattle.lists.specs.Lists.{all, writtenTo}

@@ -1,8 +1,8 @@
 -- The ways through an own packet's call. Assumes nothing.
-use mathlib.Core.Path.{_≡_, refl, sym, ap, _∙_}
-use mathlib.Core.Bool.{Bool, true, false, not}
-use mathlib.Core.List.{List, [], _∷_}
-use mathlib.Core.Option.{Option, none, some}
+use mathlib.Core.Path.{_≡_, refl}
+use mathlib.Core.Bool.{true, false, not}
+use mathlib.Core.List.{List}
+use mathlib.Core.Option.{none, some}
 use Prim.Native.Nat.{ℕ, _+_, _≤_, _<_}
 use native.Mathlib.Omega.{arith}
 use borrow.Author.Tests.{ltb-true, ltb-false, not-false}
@@ -18,7 +18,7 @@ use Rattle.rules.specs.Settings.{ttlLeast, isInUse}
 use Rattle.rules.proofs.Faults.{none-at, not-given, numbered, first-numbered, given-numbered, written-numbered, no-number}
 use Rattle.lists.proofs.Tests.{both}
 use Rattle.layout.specs.Layout.{usedAt}
-use Rattle.layout.specs.Cells.{encode, decode, wellFormed}
+use Rattle.layout.specs.Cells.{decode, wellFormed}
 use Rattle.changes.specs.Performed.{Performed}
 use Rattle.changes.proofs.Values.{used-read}
 use Rattle.changes.proofs.Performing.{not-asked, does, refuses}

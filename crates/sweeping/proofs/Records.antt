@@ -1,25 +1,24 @@
 -- The pass over the records, and what it leaves of the table. Assumes nothing.
-use mathlib.Core.Path.{_≡_, refl, sym, ap, ap₂, _∙_, subst}
+use mathlib.Core.Path.{_≡_, refl, sym, ap, _∙_, subst}
 use mathlib.Core.Bool.{Bool, true, false, not}
-use mathlib.Core.List.{List, map}
+use mathlib.Core.List.{List}
 use Prim.Native.Nat.{ℕ, _+_, _-_, _*_, _≤_, _<_}
 use native.Mathlib.Omega.{arith}
-use borrow.Author.Tests.{leb-true, le-leb}
+use borrow.Author.Tests.{leb-true}
 use borrow.Rule.Slice.PartMut.{putMid}
 use lib.Dec.{leb, ltb}
-use lib.ListN.{length, take, drop, set, getD}
-use Rattle.lists.specs.Lists.{and, keep, all}
-use Rattle.lists.proofs.Tests.{and-at}
-use Rattle.lists.proofs.Lists.{keep-length, all-weaken}
-use Rattle.cells.specs.Area.{zeros, written, rowsOf}
+use lib.ListN.{length, take, drop, getD}
+use Rattle.lists.specs.Lists.{and, keep}
+use Rattle.lists.proofs.Lists.{keep-length}
+use Rattle.cells.specs.Area.{zeros, written}
 use Rattle.cells.proofs.Areas.{length-area}
 use Rattle.cells.proofs.Trips.{length-decoded}
 use Rattle.cells.proofs.Compact.{Turn, Pass, pass-start, pass-turn, pass-dropped, pass-moved, pass-along, pass-done, pass-left, pass-size}
-use Rattle.rules.specs.Settings.{capacityMost, recordCells}
-use Rattle.rules.specs.Table.{TableRecord, TableState}
+use Rattle.rules.specs.Settings.{recordCells}
+use Rattle.rules.specs.Table.{TableRecord}
 use Rattle.record.specs.Record.{timeAt, encodeRecord, decodeRecord}
 use Rattle.record.proofs.Rows.{length-record}
-use Rattle.layout.specs.Cells.{recordArea, encode, decode}
+use Rattle.layout.specs.Cells.{recordArea}
 use Rattle.sweeping.specs.Sweeping.{recordsOf, RecordsHeld, isRecent, Kept}
 
 row-time : (e : ℕ × TableRecord) → getD (encodeRecord e) timeAt 0 ≡ e .1 .time

@@ -2,7 +2,7 @@
 use mathlib.Core.Path.{_≡_, refl, sym, ap, ap₂, _∙_, subst}
 use mathlib.Core.Bool.{Bool, true, false, cond, not}
 use mathlib.Core.List.{List, [], _∷_}
-use Prim.Native.Nat.{ℕ, suc, _+_, _-_, _*_, _≤_, _<_}
+use Prim.Native.Nat.{ℕ, suc, _+_, _-_, _≤_}
 use native.Mathlib.Omega.{arith}
 use borrow.Author.Tests.{leb-true, le-leb}
 use borrow.Rule.Slice.PartMut.{putMid}
@@ -12,10 +12,9 @@ use Rattle.lists.specs.Lists.{and, keep, all}
 use Rattle.lists.proofs.Tests.{and-at}
 use Rattle.lists.proofs.Lists.{all-weaken}
 use Rattle.cells.proofs.Lent.{tail-is}
-use Rattle.rules.specs.Settings.{capacityMost, recordCells}
 use Rattle.rules.specs.Calls.{swept}
 use Rattle.rules.specs.Rules.{isExpired, purge}
-use Rattle.rules.specs.Table.{TableRecord, TableState, table}
+use Rattle.rules.specs.Table.{TableRecord, table}
 use Rattle.rules.specs.WellFormed.{recordTests}
 use Rattle.rules.proofs.WellFormed.{Wf, parts}
 use Rattle.layout.specs.Layout.{purgeAt, capacityAt, timeAt, recordsAt, recordsFrom}

@@ -1,11 +1,11 @@
 -- How large a refusal's numbers are: a number of at most 8, and a place of at most m. Assumes nothing.
-use mathlib.Core.Path.{_≡_, refl, ap, _∙_}
-use mathlib.Core.Bool.{Bool, true, false, cond, not, _||_, _&&_, or-true}
+use mathlib.Core.Path.{_≡_, refl}
+use mathlib.Core.Bool.{Bool, true, false, not, _||_, _&&_, or-true}
 use mathlib.Core.List.{List, [], _∷_}
 use mathlib.Core.Option.{Option, none, some}
 use Prim.Native.Nat.{ℕ, _/_, _%_, _≤_, _<_}
 use native.Mathlib.Omega.{arith}
-use borrow.Author.Tests.{ltb-true, ltb-false, leb-true, le-leb}
+use borrow.Author.Tests.{ltb-false, leb-true, le-leb}
 use lib.Dec.{ltb, leb, eqb}
 use lib.ListN.{length, length-drop}
 use Rattle.lists.specs.Lists.{maybe, all}

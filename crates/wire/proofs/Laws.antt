@@ -1,20 +1,18 @@
 -- The laws of `specs/Laws.antt`. Assumes nothing.
-use mathlib.Core.Path.{_≡_, refl, sym, _∙_, ap}
-use mathlib.Core.Bool.{Bool, true, false, cond, not, _||_}
+use mathlib.Core.Path.{_≡_, refl, _∙_, ap}
+use mathlib.Core.Bool.{Bool, true, false, cond, not}
 use mathlib.Core.List.{List, [], _∷_}
-use mathlib.Core.Option.{Option, none, some}
-use Prim.Native.Nat.{ℕ, zero, suc, _+_, _-_, _*_, _/_, _%_, _≤_, _<_}
+use mathlib.Core.Option.{none}
+use Prim.Native.Nat.{ℕ, _+_, _-_, _*_, _/_, _%_, _≤_, _<_}
 use native.Mathlib.Omega.{arith}
-use borrow.Author.Tests.{le-ltb, lt-ltb, eq-eqb, ne-eqb}
+use borrow.Author.Tests.{le-ltb, eq-eqb}
 use lib.Dec.{ltb, eqb}
-use lib.ListN.{length, getD, drop, set, length-set}
+use lib.ListN.{length, set, length-set}
 use lib.Seq.{getD-set-same, getD-set-other, drop-set-lt}
-use Rattle.lists.specs.Lists.{maybe}
 use Rattle.wire.specs.declared.Header.{Header}
-use Rattle.wire.specs.declared.Fault.{Fault}
 use Rattle.wire.specs.Layout.{headerSize, entrySize, packetMost, maskMost, versionAt, flagsAt, ttlAt}
 use Rattle.wire.specs.Packet.{octet, header, hna, headerOctets, packetOf, isU, isD, unnamed}
-use Rattle.wire.specs.Check.{given, firstOf, entries, mask, firstBadMask, hnaFault, packetFault, writtenFault}
+use Rattle.wire.specs.Check.{entries, mask, firstBadMask, hnaFault, packetFault, writtenFault}
 use Rattle.wire.specs.PassOn.{flagsHere, flagsElsewhere, passedOn}
 use Rattle.wire.specs.Laws.{ReadsBack, Allowed, Copy, Flags}
 use Rattle.wire.proofs.Search.{nowhere}

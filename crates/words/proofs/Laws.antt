@@ -1,7 +1,7 @@
 -- A turn of the loops that look for a word's ends, and the word between them. Assumes nothing.
-use mathlib.Core.Path.{_≡_, refl, sym, ap, _∙_}
-use mathlib.Core.List.{List, [], _∷_}
-use Prim.Native.Nat.{ℕ, zero, suc, _+_, _-_, _≤_, _<_}
+use mathlib.Core.Path.{_≡_, sym, ap, _∙_}
+use mathlib.Core.List.{List, []}
+use Prim.Native.Nat.{ℕ, _+_, _-_, _≤_, _<_}
 use native.Mathlib.Omega.{arith}
 use native.Mathlib.Numerals.{add-one}
 use lib.ListN.{length, take, drop, getD, length-drop}
@@ -9,7 +9,7 @@ use lib.Seq.{drop-cons, drop-length}
 use mathlib.Core.Bool.{true}
 use lib.Dec.{eqb}
 use borrow.Author.Tests.{eq-eqb, ne-eqb, eqb-true}
-use Rattle.words.specs.Words.{space, fromWord, behind, wordOf, nextOf, afterNext}
+use Rattle.words.specs.Words.{space, fromWord, behind, wordOf}
 
 module _ (xs : List ℕ) (i : ℕ) where
   pub from-space : i < length xs → getD xs i 0 ≡ space → fromWord (drop i xs) ≡ fromWord (drop (i + 1) xs)

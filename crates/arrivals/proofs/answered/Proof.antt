@@ -1,6 +1,5 @@
 -- `arrivals::answered` meets its contract. Assumes nothing.
 use mathlib.Core.Path.{ap}
-use Rattle.rules.specs.declared.Received.{Received}
 use Rattle.rules.specs.declared.Route.{Route}
 use Rattle.layout.specs.Cells.{decode}
 use borrow.Author.Needs.{needs}

@@ -1,7 +1,5 @@
 -- `arrivals::conclude` meets its contract. Assumes nothing.
-use mathlib.Core.Path.{refl}
 use borrow.Author.Tests.{not-true, not-false}
-use denote.Ref.{now}
 use Rattle.arrivals.proofs.Endings.{kept-replies, ttl-positive, passed-replies}
 use borrow.Author.Needs.{needs}
 use Rattle.arrivals.proofs.conclude.Statement.{statement}

@@ -4,7 +4,6 @@ use native.Mathlib.Omega.{arith}
 use denote.Ref.{now}
 use Rattle.wire.specs.declared.Header.{Header}
 use Rattle.rules.specs.Calls.{linkOf}
-use Rattle.arrivals.specs.declared.Arrival.{Arrival}
 use Rattle.incoming.proofs.Arguments.{typed-of}
 use borrow.Author.Needs.{needs}
 use Rattle.incoming.proofs.read_arrival.Statement.{statement}

@@ -1,11 +1,8 @@
 -- `neighbours::keep_rows` meets its contract: the loop's invariant is a pass over the rows (`Rows.Going`). Assumes nothing.
-use mathlib.Core.Path.{_≡_, refl, sym, ap, _∙_}
+use mathlib.Core.Path.{sym, _∙_}
 use mathlib.Core.Logic.{⊎-elim}
-use mathlib.Core.List.{List}
-use Prim.Native.Nat.{ℕ, _+_, _-_, _≤_, _<_}
-use native.Mathlib.Omega.{arith}
+use Prim.Native.Nat.{_-_}
 use borrow.Author.Needs.{needs}
-use lib.ListN.{length}
 use denote.Ref.{now}
 use Rattle.neighbours.proofs.Rows.{Going, start, number-read, dropped, moved, along, kept-rows, left-rows, left-size}
 use Rattle.neighbours.proofs.keep_rows.Statement.{statement}

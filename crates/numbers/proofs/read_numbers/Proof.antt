@@ -1,11 +1,11 @@
 use borrow.Author.Needs.{needs}
-use mathlib.Core.Path.{_≡_, refl, sym, ap, _∙_}
+use mathlib.Core.Path.{_≡_, refl, ap, _∙_}
 use mathlib.Core.Logic.{⊎-elim}
 use Prim.Native.Nat.{ℕ, _-_, _≤_, _<_}
 use native.Mathlib.Omega.{arith}
 use lib.ListN.{length, drop, getD, length-set}
 use borrow.Author.Tests.{eqb-true, eqb-false}
-use Rattle.numbers.specs.declared.Number.the-variants.{Is, Bad}
+use Rattle.numbers.specs.declared.Number.the-variants.{Is}
 use Rattle.words.specs.Words.{afterWords}
 use Rattle.numbers.specs.Numbers.{numberAt}
 use Rattle.numbers.proofs.Laws.{number-read, one-word-more, each-more}

@@ -1,6 +1,5 @@
 use borrow.Author.Needs.{needs}
 use native.Mathlib.Omega.{arith}
-use mathlib.Core.Path.{ap, _∙_}
 use Rattle.numbers.proofs.Laws.{below-digits, above-digits, above-most, one-more}
 use Rattle.numbers.proofs.with_digit.Statement.{statement}
 use Rattle.numbers.proofs.with_digit.Tie as tie

@@ -1,13 +1,12 @@
 use borrow.Author.Needs.{needs}
-use mathlib.Core.Path.{_≡_, refl, sym, ap, _∙_}
+use mathlib.Core.Path.{_≡_, refl, sym, _∙_}
 use mathlib.Core.Logic.{⊎-elim}
-use Prim.Native.Nat.{ℕ, _-_, _/_, _≤_, _<_}
+use Prim.Native.Nat.{_-_, _/_, _≤_}
 use native.Mathlib.Omega.{arith}
-use lib.ListN.{length, getD, length-set}
+use lib.ListN.{length, length-set}
 use lib.Seq.{length-take-le}
 use borrow.Author.Tests.{eqb-true, eqb-false}
-use Rattle.octets.specs.declared.Digit.the-variants.{Is, Bad}
-use Rattle.octets.specs.Octets.{octetAt, Are}
+use Rattle.octets.specs.Octets.{Are}
 use Rattle.octets.proofs.Laws.{octets-more}
 use Rattle.octets.proofs.pairs.Statement.{statement}
 use Rattle.octets.proofs.pairs.Tie as tie

@@ -1,5 +1,4 @@
 -- `own_packets::own_header` meets its contract. Assumes nothing.
-use mathlib.Core.Path.{_≡_, refl}
 use borrow.Author.Needs.{needs}
 use denote.Ref.{now}
 use Rattle.own_packets.proofs.Message.{version-is, own-is}

@@ -1,11 +1,10 @@
 -- `packet_check::packet_check` meets its contract: number and place are small, so the sum fits. Assumes nothing.
-use mathlib.Core.Path.{_≡_, refl, _∙_, ap}
+use mathlib.Core.Path.{_≡_, refl}
 use mathlib.Core.List.{List}
 use mathlib.Core.Option.{Option, none, some}
 use Prim.Native.Nat.{ℕ, _+_, _*_}
 use native.Mathlib.Omega.{arith}
 use borrow.Author.Needs.{needs}
-use denote.Ref.{now}
 use Rattle.lists.specs.Lists.{maybe}
 use Rattle.wire.specs.declared.Fault.{Fault}
 use Rattle.wire.specs.Check.{faultOf, packetFault, packetCheck}

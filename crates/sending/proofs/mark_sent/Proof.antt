@@ -1,6 +1,5 @@
 -- `sending::mark_sent` meets its contract. Assumes nothing.
-use mathlib.Core.Path.{_≡_, refl, sym, ap, _∙_}
-use mathlib.Core.List.{List}
+use mathlib.Core.Path.{_≡_, ap, _∙_}
 use Prim.Native.Nat.{ℕ, _+_, _-_}
 use native.Mathlib.Omega.{arith}
 use borrow.Author.Needs.{needs}
@@ -9,7 +8,6 @@ use lib.ListN.{take, drop, set}
 use denote.Ref.{now}
 use Rattle.rules.specs.Settings.{interfaceCells}
 use Rattle.layout.specs.Layout.{ownPlace, sentAt, lastAt}
-use Rattle.cells.proofs.Lent.{part-length}
 use Rattle.sending.proofs.Steps.{sent-is}
 use Rattle.sending.proofs.mark_sent.Statement.{statement}
 use Rattle.sending.proofs.mark_sent.Tie as tie

@@ -1,20 +1,15 @@
 -- `sending::own_packet` meets its contract: refused by 1, refused by the rules, or sent. Assumes nothing.
-use mathlib.Core.Path.{_≡_, refl, sym, ap, _∙_, subst}
+use mathlib.Core.Path.{_≡_, refl, sym, ap, _∙_}
 use mathlib.Core.Bool.{true, false}
-use mathlib.Core.List.{List}
-use mathlib.Core.Option.{none, some}
-use Prim.Native.Nat.{ℕ}
+use mathlib.Core.Option.{none}
 use borrow.Author.Needs.{needs}
 use borrow.Author.Tests.{not-true, not-false}
-use lib.ListN.{length}
 use denote.Ref.{now}
 use Rattle.wire.specs.declared.Fault.{Fault}
 use Rattle.wire.specs.Check.{faultOf}
-use Rattle.rules.specs.declared.Written.{Written}
-use Rattle.rules.specs.Calls.{OwnArgs, own, written}
+use Rattle.rules.specs.Calls.{OwnArgs}
 use Rattle.rules.proofs.Faults.{found-number}
 use Rattle.layout.specs.Cells.{wellFormed}
-use Rattle.changes.specs.Performed.{Performed}
 use Rattle.table.proofs.Knowing.{knows}
 use Rattle.own_packets.specs.OwnPacket.{args, faultIn}
 use Rattle.sending.proofs.Call.{ill-formed, faulty, sends, used, room, by-number}

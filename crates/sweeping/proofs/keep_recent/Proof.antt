@@ -1,11 +1,8 @@
 -- `sweeping::keep_recent` meets its contract: the loop's invariant is a pass over the records (`Records.Going`). Assumes nothing.
-use mathlib.Core.Path.{_≡_, refl, sym, ap, _∙_}
+use mathlib.Core.Path.{sym, _∙_}
 use mathlib.Core.Logic.{⊎-elim}
-use mathlib.Core.List.{List}
-use Prim.Native.Nat.{ℕ, _+_, _-_, _≤_, _<_}
-use native.Mathlib.Omega.{arith}
+use Prim.Native.Nat.{_-_}
 use borrow.Author.Needs.{needs}
-use lib.ListN.{length}
 use denote.Ref.{now}
 use Rattle.sweeping.specs.Sweeping.{RecordsHeld}
 use Rattle.sweeping.proofs.Records.{Going, start, time-read, dropped, moved, along, left-size, kept-are}

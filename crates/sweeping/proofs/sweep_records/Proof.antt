@@ -1,6 +1,5 @@
 -- `sweeping::sweep_records` meets its contract. Assumes nothing.
 use borrow.Author.Needs.{needs}
-use native.Mathlib.Omega.{arith}
 use lib.ListN.{length-set}
 use denote.Ref.{now}
 use Rattle.sweeping.proofs.Steps.{asks, swept-all}
