@@ -13,11 +13,11 @@ ghost use mathlib.Core.List.{[]};
 ghost use Rattle.wire.specs.Check.{packetCheck};
 ghost use Rattle.rules.specs.Calls as C;
 ghost use Rattle.rules.specs.WellFormed.{typed};
-ghost use Rattle.layout.specs.Calls.{callOn};
-ghost use Rattle.make.specs.Make.{makeArgs, neededFor};
-ghost use Rattle.changes.specs.Performed.{Performed};
-ghost use Rattle.arrivals.specs.Receiving.{argsOf};
-ghost use Rattle.own_packets.specs.OwnPacket.{args};
+ghost use Rattle.table_layout.specs.Calls.{callOn};
+ghost use Rattle.call_make.specs.Make.{makeArgs, neededFor};
+ghost use Rattle.table_changes.specs.Performed.{Performed};
+ghost use Rattle.call_receive_arrival.specs.Receiving.{argsOf};
+ghost use Rattle.call_own_packet_checks.specs.OwnPacket.{args};
 
 // The interface rows as C passes them: an array can't be a parameter there.
 #[repr(C)]
@@ -39,7 +39,7 @@ pub extern "C" fn batman_packet_check(packet: &[u8], version: u64) -> u64
 pub extern "C" fn batman_cells_needed(capacity: u64) -> u64
     ensures { λ r. ⌜ r ≡ neededFor capacity ⌝ }
 {
-    make::cells_needed(capacity)
+    call_make::cells_needed(capacity)
 }
 
 // Makes a fresh table in all the cells given, or answers 12.
@@ -48,7 +48,7 @@ pub extern "C" fn batman_make(cells: &mut [u64], settings: Settings, interfaces:
     ensures { λ r. ⌜ (callOn (now (cells .entry)) (C.make (makeArgs settings (interfaces .row) (interfaces .used))) .reply ≡ C.answered (C.made r)) × (now (cells .exit) ≡ callOn (now (cells .entry)) (C.make (makeArgs settings (interfaces .row) (interfaces .used))) .cells) ⌝ }
 {
     let rows = interfaces.row;
-    make::make(cells, settings, rows, interfaces.used)
+    call_make::make(cells, settings, rows, interfaces.used)
 }
 
 // Judges a received packet: what it is counted as, whether it is passed on, and the route to its originator.
@@ -64,7 +64,7 @@ pub extern "C" fn batman_receive(
     ensures { λ r. ⌜ Performed (now (cells .entry)) (C.receive (argsOf (now (packet .entry)) sender interface time (now (out .entry)))) (C.received r) (now (out .exit)) (now (cells .exit))
         × (typed (C.receive (argsOf (now (packet .entry)) sender interface time (now (out .entry)))) ≡ true) ⌝ }
 {
-    receiving::receive(cells, packet, sender, interface, time, out)
+    call_receive::receive(cells, packet, sender, interface, time, out)
 }
 
 // Writes an interface's next own packet at the start of the output.
@@ -82,7 +82,7 @@ pub extern "C" fn batman_own_packet(
     ensures { λ r. ⌜ Performed (now (cells .entry)) (C.own (args interface time ttl gateway port (now (hna .entry)) (now (out .entry)))) (C.written r) (now (out .exit)) (now (cells .exit))
         × (typed (C.own (args interface time ttl gateway port (now (hna .entry)) (now (out .entry)))) ≡ true) ⌝ }
 {
-    sending::own_packet(cells, interface, time, ttl, gateway, port, hna, out)
+    call_own_packet::own_packet(cells, interface, time, ttl, gateway, port, hna, out)
 }
 
 // Removes the records whose time is more than the purge timeout ago.
@@ -90,7 +90,7 @@ pub extern "C" fn batman_own_packet(
 pub extern "C" fn batman_sweep(cells: &mut [u64], time: u64) -> Swept
     ensures { λ r. ⌜ Performed (now (cells .entry)) (C.sweep time) (C.swept r) [] (now (cells .exit)) × (typed (C.sweep time) ≡ true) ⌝ }
 {
-    sweeping::sweep(cells, time)
+    call_sweep::sweep(cells, time)
 }
 
 // The best link to an originator.
@@ -98,7 +98,7 @@ pub extern "C" fn batman_sweep(cells: &mut [u64], time: u64) -> Swept
 pub extern "C" fn batman_best(cells: &[u64], originator: u32) -> Asked
     ensures { λ r. ⌜ (callOn (now (cells .entry)) (C.ask originator) .reply ≡ C.answered (C.asked r)) × (callOn (now (cells .entry)) (C.ask originator) .cells ≡ now (cells .entry)) ⌝ }
 {
-    routing::best::best(cells, originator)
+    call_best::best::best(cells, originator)
 }
 
 // Fills the caller's rows, one for each link held to an originator, in table order. Further rows stay as they are.
@@ -107,8 +107,8 @@ pub extern "C" fn batman_list(cells: &[u64], originator: u32, rows: &mut [LinkRo
     ensures { λ r. ⌜ (callOn (now (cells .entry)) (C.list originator (now (rows .entry))) .reply ≡ record { answer = C.listed r; output = []; rows = now (rows .exit) }) × (callOn (now (cells .entry)) (C.list originator (now (rows .entry))) .cells ≡ now (cells .entry)) ⌝ }
 {
     let room = rows.len();
-    let got = listing::links_of(cells, originator, room);
-    listing::fill_rows(rows, got);
+    let got = call_list::links_of(cells, originator, room);
+    call_list::fill_rows(rows, got);
     Listed {
         number: got.number,
         filled: got.n as u64,

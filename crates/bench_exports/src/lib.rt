@@ -1,8 +1,8 @@
 // What bench/wellformed calls from C.
-use table::well_formed;
+use table_check::well_formed;
 ghost use mathlib.Core.Path.{_≡_};
 ghost use mathlib.Core.Bool.{cond};
-ghost use Rattle.layout.specs.Cells.{wellFormed};
+ghost use Rattle.table_layout.specs.Cells.{wellFormed};
 
 // 1 for the cells of a well-formed table, else 0.
 #[no_mangle]

@@ -1,21 +1,21 @@
 // The calls of a script: each is made on the lent cells, and its answer is put behind the `used` octets of a text.
-use answers::put_asked;
-use answers::put_cells;
-use answers::put_one;
-use answers::put_received;
-use answers::put_rows;
-use answers::put_two;
-use answers::put_written;
+use script_answers::put_asked;
+use script_answers::put_cells;
+use script_answers::put_one;
+use script_answers::put_received;
+use script_answers::put_rows;
+use script_answers::put_two;
+use script_answers::put_written;
 use batman::Interfaces;
-use lines::names::Call;
-use lines::requests::OUTPUT_MOST;
-use lines::tables::rows_of;
-use lines::tables::settings_of;
-use numbers::NUMBERS_MOST;
-use numbers::address;
-use numbers::octet;
-use numbers::sequence;
-ghost use Rattle.octets.specs.Octets.{Fits};
+use script_lines::names::Call;
+use script_lines::requests::OUTPUT_MOST;
+use script_lines::tables::rows_of;
+use script_lines::tables::settings_of;
+use script_numbers::NUMBERS_MOST;
+use script_numbers::address;
+use script_numbers::octet;
+use script_numbers::sequence;
+ghost use Rattle.script_octets.specs.Octets.{Fits};
 
 // Each octet of an output before a call.
 const FILLER: u8 = 238;
@@ -107,7 +107,7 @@ fn best(v: &[u64; NUMBERS_MOST], cells: &[u64], text: &mut [u8], used: usize) ->
 }
 
 fn list(v: &[u64; NUMBERS_MOST], cells: &[u64], text: &mut [u8], used: usize) -> usize {
-    let links = listing::links_of(cells, address(v[0]), v[1] as usize);
+    let links = call_list::links_of(cells, address(v[0]), v[1] as usize);
     let filled = links.rows;
     let a = put_two(text, used, b"list", links.number, links.n as u64);
     put_rows(text, a, filled, links.n)

@@ -7,7 +7,7 @@ use crate::session::finish;
 use crate::session::last_line;
 use crate::session::take_piece;
 use libc::STDIN_FILENO;
-use lines::requests::CELLS_MOST;
+use script_lines::requests::CELLS_MOST;
 
 // How many octets are read at once, and how many a line has at most.
 const PIECE: usize = 65536;

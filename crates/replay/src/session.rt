@@ -1,13 +1,13 @@
 // Lines: put together from the pieces that are read, and each answered.
 use crate::calls::make_call;
-use answers::put_one;
+use script_answers::put_one;
 use libc::STDOUT_FILENO;
-use lines::gather;
-use lines::names::Call;
-use lines::requests::PACKET_MOST;
-use lines::requests::read;
-use numbers::NUMBERS_MOST;
-ghost use Rattle.octets.specs.Octets.{Fits};
+use script_lines::gather;
+use script_lines::names::Call;
+use script_lines::requests::PACKET_MOST;
+use script_lines::requests::read;
+use script_numbers::NUMBERS_MOST;
+ghost use Rattle.script_octets.specs.Octets.{Fits};
 
 const LINE_END: u8 = b'\n';
 

@@ -42,22 +42,22 @@ use denote.Exit.{yes}
 use Rattle.lists.specs.Lists.{writtenTo}
 use Rattle.rules.specs.Settings.{linkMost}
 use Rattle.rules.specs.declared.LinkRow.{LinkRow}
-use Rattle.listing.specs.declared.Links.{Links}
-use Rattle.listing.specs.Listing.{answerOf, Settles}
-use Rattle.listing.proofs.Answers.{performed}
+use Rattle.call_list.specs.declared.Links.{Links}
+use Rattle.call_list.specs.Listing.{answerOf, Settles}
+use Rattle.call_list.proofs.Answers.{performed}
 use Rattle.rules.proofs.LinkRow as T
 use Rattle.rules.proofs.Listed as K
 use Rattle.rules.proofs.Listed.Laws as K′
-use Rattle.listing.proofs.Links as L
-use Rattle.listing.proofs.Links.Laws as L′
-use Rattle.listing.proofs.links_of as links-of
-use Rattle.listing.proofs.links_of.Symbol as links-def
-use Rattle.listing.proofs.links_of.Symbol.{name as #listing·links-of}
-use Rattle.listing.proofs.links_of.Met as links-thm
-use Rattle.listing.proofs.fill_rows as fill
-use Rattle.listing.proofs.fill_rows.Symbol as fill-def
-use Rattle.listing.proofs.fill_rows.Symbol.{name as #listing·fill-rows}
-use Rattle.listing.proofs.fill_rows.Met as fill-thm
+use Rattle.call_list.proofs.Links as L
+use Rattle.call_list.proofs.Links.Laws as L′
+use Rattle.call_list.proofs.links_of as links-of
+use Rattle.call_list.proofs.links_of.Symbol as links-def
+use Rattle.call_list.proofs.links_of.Symbol.{name as #listing·links-of}
+use Rattle.call_list.proofs.links_of.Met as links-thm
+use Rattle.call_list.proofs.fill_rows as fill
+use Rattle.call_list.proofs.fill_rows.Symbol as fill-def
+use Rattle.call_list.proofs.fill_rows.Symbol.{name as #listing·fill-rows}
+use Rattle.call_list.proofs.fill_rows.Met as fill-thm
 use Rattle.batman.proofs.batman_list.Key.{name as #batman·batman-list}
 use Rattle.batman.proofs.batman_list as f
 use Rattle.batman.proofs.batman_list.Statement as stated

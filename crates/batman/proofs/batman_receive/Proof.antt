@@ -2,7 +2,7 @@
 use native.Mathlib.Omega.{arith}
 use denote.Ref.{now}
 use borrow.Author.Needs.{needs}
-use Rattle.incoming.proofs.Arguments.{typed-of}
+use Rattle.call_receive_checks.proofs.Arguments.{typed-of}
 use Rattle.batman.proofs.batman_receive.Statement.{statement}
 use Rattle.batman.proofs.batman_receive.Tie as tie
 

@@ -1,0 +1,41 @@
+-- `routing::best::route_to` meets its contract: the route of the record that is found, or none. Assumes nothing.
+use borrow.Author.Needs.{needs}
+use mathlib.Core.Path.{refl, sym, ap, _∙_, subst}
+use mathlib.Core.List.{List}
+use mathlib.Core.Option.{some}
+use Prim.Native.Nat.{ℕ}
+use Rattle.rules.specs.Rules.{routeOf}
+use Rattle.rules.specs.Table.{table}
+use Rattle.table_record.specs.Record.{decodeRecord, Held}
+use Rattle.table_layout.specs.Cells.{decode}
+use Rattle.table_originators.specs.Originators.{Stands, RecordFound}
+use Rattle.call_best.proofs.best.route_to.Statement.{statement}
+use Rattle.call_best.proofs.best.route_to.Tie as tie
+
+-- the record stands at place i
+stands : (c : tie.After-f) → Stands (c .before .before .before .before .args .cells .now) (c .before .before .before .before .args .originator) (c .f .given .0 .0)
+stands c =
+    let a = c .before .before .before .before .args in
+    subst (RecordFound (a .cells .now) (a .originator)) (c .f .given .1) (c .before .before .find-record .ensures)
+
+route-of-requires : tie.Need-route-of-requires
+route-of-requires c κs = subst Held (sym (c .before .record-at .ensures)) (stands (c .before .before .before) .holds .row)
+
+returns : tie.Need-returns
+unfolding decode
+returns c =
+    let r = c .before .before in
+    let κ = decode (r .before .before .before .before .before .before .args .cells .now) .config in
+    c .route-of .ensures κ refl ∙ ap (routeOf table κ) (ap (λ (row : List ℕ). some (decodeRecord row .1)) (r .record-at .ensures) ∙ sym (stands (r .before .before) .found))
+
+returns-2 : tie.Need-returns-2
+returns-2 c =
+    let o = c .before in
+    let a = o .before .before .before .before .args in
+    let m = subst (RecordFound (a .cells .now) (a .originator)) (o .enum-told .given .1) (o .before .before .find-record .ensures) in
+    c .no-route .ensures ∙ ap (routeOf table (decode (a .cells .now) .config)) (sym (m .none))
+
+pub route-to-spec : {M : Type 1} → statement M
+route-to-spec =
+    tie.close
+    (tie.spec (λ c κs. search needs) (λ c. search needs) (λ c κs. stands (c .before) .holds) (λ c. search needs) (λ c. search needs) route-of-requires (λ c. search needs) (λ c κs. search needs) returns returns-2)

@@ -1,0 +1,84 @@
+-- Rows written one after the other, and the rows of a record's links. Assumes nothing.
+use Prim.Native.Nat.{ℕ, suc, _+_, _*_, _≤_, _<_}
+use native.Mathlib.Numerals.{add-one}
+use native.Mathlib.Omega.{arith}
+use mathlib.Core.Path.{_≡_, refl, sym, ap, _∙_}
+use mathlib.Core.List.{List, map, append-assoc}
+use mathlib.Core.Option.{some}
+use lib.ListN.{length, getD, set, take, drop, replicate, length-map, List·getD-map}
+use lib.Seq.{take-suc, drop-cons, set-at, take-at, take-all, getD-drop, length-take-le, length-front}
+use Rattle.lists.specs.Lists.{writtenTo}
+use Rattle.lists.proofs.Lists.{map-map}
+use Rattle.cells.proofs.Pairs.{length-pairs, pair-of}
+use Rattle.window.specs.Window.{count}
+use Rattle.rules.specs.declared.LinkRow.{LinkRow}
+use Rattle.rules.specs.Settings.{Config, linkMost, linkCells, recordHeadCells}
+use Rattle.rules.specs.Rules.{linkRows}
+use Rattle.rules.specs.Table.{table}
+use Rattle.table_record.specs.Record.{linksAt, bestAt, linksOf, decodeRecord}
+use Rattle.call_list.specs.Listing.{zeroRow, rowOf, Listable, Finds}
+
+-- ---- rows written at the start of a lent list
+
+module _ {A : Type 0} (from ys : List A) (i : ℕ) where
+  pub length-written : i ≤ length from → i ≤ length ys → length (writtenTo (take i from) ys) ≡ length ys
+  unfolding writtenTo
+  length-written hf hy =
+      let l : length (take i from) ≡ i = length-take-le i from hf in
+      rw l (length-front ys (take i from) i (l ∙ sym (length-take-le i ys hy)))
+
+  -- with i of them written, the next is written
+  pub written-more : (d : A) → i < length from → i < length ys → set (writtenTo (take i from) ys) i (getD from i d) ≡ writtenTo (take (suc i) from) ys
+  unfolding writtenTo
+  written-more d hf hy =
+      let l : length (take i from) ≡ i = length-take-le i from (omega arith) in
+      let m : length (take (suc i) from) ≡ suc i = length-take-le (suc i) from hf in
+      rw (m, l, take-suc from i d hf, append-assoc, drop-cons ys i d hy) (set-at (take i from) (getD ys i d) (drop (suc i) ys) (getD from i d) i l)
+
+-- ---- the rows of a record's links
+
+abbrev pub rowsIn : (W : ℕ) → List ℕ → List LinkRow
+rowsIn W row = map (rowOf W (getD row bestAt 0)) (linksOf row)
+
+-- an array with no row written
+abbrev pub blank : List LinkRow
+blank = replicate linkMost zeroRow
+
+by-rules : (κ : Config) (row : List ℕ) → linkRows table κ (some (decodeRecord row .1)) ≡ rowsIn (κ .settings .window) row
+unfolding decodeRecord
+by-rules κ row = map-map (λ (e : ℕ × ℕ). (e .0, count (e .1))) _ (linksOf row)
+
+module _ (W : ℕ) (row : List ℕ) where
+  length-rows : length (rowsIn W row) ≡ getD row linksAt 0
+  length-rows = length-map (linksOf row) (rowOf W (getD row bestAt 0)) ∙ length-pairs (getD row linksAt 0) (drop recordHeadCells row)
+
+  row-at : (i : ℕ) → i < getD row linksAt 0
+      → getD (rowsIn W row) i (rowOf W (getD row bestAt 0) (0, 0)) ≡ rowOf W (getD row bestAt 0) (getD row (recordHeadCells + i * linkCells) 0, getD row (recordHeadCells + i * linkCells + 1) 0)
+  row-at i h =
+      let second : recordHeadCells + (i * linkCells + 1) ≡ recordHeadCells + i * linkCells + 1 = omega arith in
+      List·getD-map (rowOf W (getD row bestAt 0)) (linksOf row) i (0, 0)
+      ∙ ap (rowOf W (getD row bestAt 0)) (pair-of (getD row linksAt 0) (drop recordHeadCells row) i (0, 0) h
+      ∙ (λ j. (getD-drop recordHeadCells row (i * linkCells) 0 j, (getD-drop recordHeadCells row (i * linkCells + 1) 0 ∙ ap (λ (k : ℕ). getD row k 0) second) j)))
+
+  module _ (h : Listable row) (rows : List LinkRow) where
+    pub row-written : (i : ℕ) (r : LinkRow) → i < getD row linksAt 0 → rows ≡ writtenTo (take i (rowsIn W row)) blank
+        → r ≡ rowOf W (getD row bestAt 0) (getD row (recordHeadCells + i * linkCells) 0, getD row (recordHeadCells + i * linkCells + 1) 0)
+        → set rows i r ≡ writtenTo (take (i + 1) (rowsIn W row)) blank
+    row-written i r l e q =
+        let n = length-rows in
+        let f = h .few in
+        (λ j. set (e j) i ((q ∙ sym (row-at i l)) j)) ∙ written-more (rowsIn W row) blank i (rowOf W (getD row bestAt 0) (0, 0)) (omega arith) (omega arith) ∙ ap (λ (k : ℕ). writtenTo (take k (rowsIn W row)) blank) (sym (add-one i))
+
+    -- all of them are written
+    pub rows-found : (i : ℕ) → getD row linksAt 0 ≤ i → rows ≡ writtenTo (take i (rowsIn W row)) blank → (κ : Config) → W ≡ κ .settings .window
+        → Finds (linkRows table κ (some (decodeRecord row .1))) (record { rows = rows; n = getD row linksAt 0; number = 0 })
+    unfolding writtenTo
+    rows-found i l e κ w =
+        let same : rowsIn W row ≡ linkRows table κ (some (decodeRecord row .1)) = ap (λ (k : ℕ). rowsIn k row) w ∙ sym (by-rules κ row) in
+        let whole : take i (rowsIn W row) ≡ rowsIn W row = take-all i (rowsIn W row) (omega (arith, length-rows)) in
+        record {
+          few = h .few;
+          size = sym length-rows ∙ ap length same;
+          rows = ap (take (getD row linksAt 0)) (e ∙ (rw whole)) ∙ take-at (rowsIn W row) (drop (length (rowsIn W row)) blank) (getD row linksAt 0) length-rows ∙ same;
+          number = refl;
+        }

@@ -1,0 +1,47 @@
+-- `listing::held_links` meets its contract: the rows of the record that is found, or none. Assumes nothing.
+use borrow.Author.Needs.{needs}
+use mathlib.Core.Path.{refl, sym, ap, _∙_, subst}
+use mathlib.Core.List.{List}
+use mathlib.Core.Option.{Option, some}
+use Prim.Native.Nat.{ℕ}
+use Rattle.rules.specs.Rules.{linkRows}
+use Rattle.rules.specs.Table.{TableRecord, table}
+use Rattle.table_record.specs.Record.{decodeRecord}
+use Rattle.table_layout.specs.Cells.{decode}
+use Rattle.table_originators.specs.Originators.{Stands, RecordFound}
+use Rattle.call_list.specs.Listing.{Listable, Finds}
+use Rattle.call_list.proofs.Answers.{listable, none-found}
+use Rattle.call_list.proofs.held_links.Statement.{statement}
+use Rattle.call_list.proofs.held_links.Tie as tie
+
+-- the record stands at place i
+stands : (c : tie.After-f) → Stands (c .before .before .before .before .args .cells .now) (c .before .before .before .before .args .originator) (c .f .given .0 .0)
+stands c =
+    let a = c .before .before .before .before .args in
+    subst (RecordFound (a .cells .now) (a .originator)) (c .f .given .1) (c .before .before .find-record .ensures)
+
+rows-of-requires : tie.Need-rows-of-requires
+rows-of-requires c κs =
+    let f = c .before .before .before in
+    let a = f .before .before .before .before .args in
+    subst Listable (sym (c .before .record-at .ensures)) (listable (a .cells .now) (a .originator) (f .f .given .0 .0) (stands f))
+
+returns : tie.Need-returns
+unfolding decode
+returns c =
+    let r = c .before .before in
+    let κ = decode (r .before .before .before .before .before .before .args .cells .now) .config in
+    subst (λ (x : Option TableRecord). Finds (linkRows table κ x) (c .rows-of .result))
+    (ap (λ (row : List ℕ). some (decodeRecord row .1)) (r .record-at .ensures) ∙ sym (stands (r .before .before) .found)) (c .rows-of .ensures κ refl)
+
+returns-2 : tie.Need-returns-2
+returns-2 c =
+    let o = c .before in
+    let a = o .before .before .before .before .args in
+    let m = subst (RecordFound (a .cells .now) (a .originator)) (o .enum-told .given .1) (o .before .before .find-record .ensures) in
+    subst (λ (x : Option TableRecord). Finds (linkRows table (decode (a .cells .now) .config) x) (c .no-links .result)) (sym (m .none)) (none-found (c .no-links .result) (c .no-links .ensures))
+
+pub held-links-spec : {M : Type 1} → statement M
+held-links-spec =
+    tie.close
+    (tie.spec (λ c κs. search needs) (λ c. search needs) (λ c κs. stands (c .before) .holds) (λ c. search needs) (λ c. search needs) rows-of-requires (λ c. search needs) (λ c κs. search needs) returns returns-2)

@@ -1,0 +1,118 @@
+// Making a table in the cells that are lent.
+use table_settings::own_differ;
+use table_settings::settings_ok;
+use table_layout::CAPACITY_MOST;
+use table_layout::INTERFACE_MOST;
+use table_layout::RECORDS_FROM;
+use cells_moves::clear;
+use cells_moves::write;
+use table_record::WIDTH;
+use rules::Interface;
+use rules::Settings;
+use wire::refusals::NOT_ALLOWED;
+ghost use mathlib.Core.Path.{_≡_};
+ghost use mathlib.Core.Bool.{cond};
+ghost use Prim.Native.Nat.{_≤_};
+ghost use Rattle.rules.specs.Settings.{makeAllowed, interfaceMost};
+ghost use Rattle.rules.specs.Calls.{answered, made, make};
+ghost use Rattle.table_layout.specs.Calls.{callOn};
+ghost use Rattle.call_make.specs.Make.{makeArgs, neededFor, freshHead, noInterface};
+
+// How many cells a capacity needs; 0 for one that is not allowed.
+pub fn cells_needed(capacity: u64) -> u64
+    ensures { λ r. ⌜ r ≡ neededFor capacity ⌝ }
+{
+    if (1 <= capacity) & (capacity <= CAPACITY_MOST) {
+        return (RECORDS_FROM as u64) + capacity * (WIDTH as u64);
+    }
+    0
+}
+
+// Whether a table can be made in n cells.
+fn make_allowed(n: usize, settings: Settings, rows: [Interface; 4], used: u64) -> bool
+    ensures { λ r. ⌜ r ≡ makeAllowed n (makeArgs settings rows used) ⌝ }
+{
+    if !settings_ok(settings) {
+        return false;
+    }
+    if !((1 <= used) & (used <= INTERFACE_MOST)) {
+        return false;
+    }
+    let a = rows[0];
+    let b = rows[1];
+    let c = rows[2];
+    let d = rows[3];
+    if !own_differ(a.own as u64, b.own as u64, c.own as u64, d.own as u64, used) {
+        return false;
+    }
+    n == RECORDS_FROM + settings.capacity as usize * WIDTH
+}
+
+// A row that is in use, or zeros.
+fn kept(row: Interface, in_use: bool) -> Interface
+    ensures { λ r. ⌜ r ≡ cond in_use row noInterface ⌝ }
+{
+    if in_use {
+        return row;
+    }
+    Interface {
+        own: 0,
+        broadcast: 0,
+        first: 0,
+    }
+}
+
+// The cells of a fresh table before the neighbour rows.
+fn fresh_head(settings: Settings, rows: [Interface; 4], used: u64) -> [u64; 29]
+    requires { ⌜ (1 ≤ used) × (used ≤ interfaceMost) ⌝ }
+    ensures { λ r. ⌜ r ≡ freshHead (makeArgs settings rows used) ⌝ }
+{
+    let a = rows[0];
+    let b = kept(rows[1], 1 < used);
+    let c = kept(rows[2], 2 < used);
+    let d = kept(rows[3], 3 < used);
+    [
+        settings.version,
+        settings.window,
+        settings.timeout,
+        settings.purge,
+        settings.capacity,
+        used,
+        0,
+        0,
+        0,
+        a.own as u64,
+        a.broadcast as u64,
+        a.first as u64,
+        0,
+        0,
+        b.own as u64,
+        b.broadcast as u64,
+        b.first as u64,
+        0,
+        0,
+        c.own as u64,
+        c.broadcast as u64,
+        c.first as u64,
+        0,
+        0,
+        d.own as u64,
+        d.broadcast as u64,
+        d.first as u64,
+        0,
+        0,
+    ]
+}
+
+// Makes a table: 0 and a fresh table in all cells, whatever they held, or 12 and nothing changed.
+pub fn make(cells: &mut [u64], settings: Settings, rows: [Interface; 4], used: u64) -> u64
+    ensures { λ r. ⌜ (callOn (now (cells .entry)) (make (makeArgs settings rows used)) .reply ≡ answered (made r)) × (now (cells .exit) ≡ callOn (now (cells .entry)) (make (makeArgs settings rows used)) .cells) ⌝ }
+{
+    if !make_allowed(cells.len(), settings, rows, used) {
+        return NOT_ALLOWED;
+    }
+    let head = fresh_head(settings, rows, used);
+    clear(cells);
+    write(cells, 0, &head);
+    0
+}

@@ -1,0 +1,131 @@
+-- Names for what the steps of receiving are asked and leave.
+use Prim.Native.Nat.{ℕ, _≤_, _<_}
+use mathlib.Core.Path.{_≡_}
+use mathlib.Core.Bool.{Bool, true}
+use mathlib.Core.List.{List}
+use lib.ListN.{length, getD}
+use Rattle.lists.specs.Keyed.{lookup, hasKey}
+use Rattle.window.specs.Window.{numbers}
+use Rattle.wire.specs.declared.Header.{Header}
+use Rattle.wire.specs.Layout.{headerSize}
+use Rattle.wire.specs.Packet.{header}
+use Rattle.rules.specs.declared.Received.{Received}
+use Rattle.rules.specs.declared.Interface.{Interface}
+use Rattle.rules.specs.Calls.{linkOf, received, receive, ReceiveArgs, Reply}
+use Rattle.rules.specs.Rules.{OutcomeOf, branch, lastSent, isEcho, takeEcho, verdict, linkBy, withTime, routeOf, isPassedOn, conclude, counted, decide, step}
+use Rattle.rules.specs.Table.{TableState, table}
+use Rattle.rules.specs.WellFormed.{wellFormed}
+use Rattle.table_layout.specs.Layout.{usedAt}
+use Rattle.table_layout.specs.Interfaces.{InterfaceRow, encodeInterface}
+use Rattle.table_layout.specs.Cells.{encode, decode}
+use Rattle.table_layout.specs.Facts.{Knows}
+use Rattle.call_receive_arrival.specs.declared.Arrival.{Arrival}
+
+-- the arguments of a call
+abbrev pub argsOf : (packet : List ℕ) (sender interface time : ℕ) (output : List ℕ) → ReceiveArgs
+argsOf p a i t o = record { packet = p; sender = a; interface = i; time = t; output = o }
+
+-- the message that a packet begins with, as it came from a sender
+abbrev pub arrivalOf : (packet : List ℕ) (sender interface time : ℕ) → Arrival
+arrivalOf p a i t =
+    record {
+      sender = a;
+      interface = i;
+      link = linkOf a i;
+      time = t;
+      flags = header p .flags;
+      ttl = header p .ttl;
+      sequence = header p .sequence;
+      originator = header p .originator;
+    }
+
+-- a message's call, with its packet and the lent output
+abbrev pub callOf : (p o : List ℕ) → Arrival → ReceiveArgs
+callOf p o m = argsOf p (m .sender) (m .interface) (m .time) o
+
+-- what the rules make of it on a table's cells
+abbrev pub after : (c p o : List ℕ) → Arrival → OutcomeOf table
+after c p o m = step table (length c) (decode c) (receive (callOf p o m))
+
+-- ---- what is left
+
+-- the answer r and the output q are those of a reply
+pub record Replies (q : List ℕ) (r : Received) (x : Reply) : Type 0 where
+  pub answer : received r ≡ x .answer
+  pub output : q ≡ x .output
+
+-- and the cells d those of the state
+pub record Leaves (d q : List ℕ) (r : Received) (x : OutcomeOf table) : Type 0 where
+  pub reply : Replies q r (x .reply)
+  pub cells : d ≡ encode (x .state)
+
+-- the answer of a verdict that writes nothing, with the route of the originator in a table
+abbrev pub verdictOf : TableState → (number originator : ℕ) → Received
+verdictOf s v o = record { number = v; place = 0; flags = 0; route = routeOf table (s .config) (lookup o (s .records)) }
+
+-- ---- what is asked
+
+-- the packet p has room in the output o, and m is the message that it begins with
+pub record Fits (p o : List ℕ) (m : Arrival) : Type 0 where
+  pub reads : m ≡ arrivalOf p (m .sender) (m .interface) (m .time)
+  pub size : headerSize ≤ length p
+  pub room : length p ≤ length o
+
+-- on a well-formed table's cells c a packet that none of the refusals 2 to 8 turns away; the table is well-formed after it too
+pub record Taken (c p o : List ℕ) (m : Arrival) : Type 0 where
+  pub knows : Knows c
+  pub kept : wellFormed (after c p o m .state) ≡ true
+  pub fits : Fits p o m
+  pub interface : m .interface < getD c usedAt 0
+  pub sequence : m .sequence < numbers
+
+-- a rule on a table, for a call and its header
+abbrev pub Rule : Type 0
+Rule = TableState → ReceiveArgs → Header → OutcomeOf table
+
+-- the packet comes down to this rule
+abbrev pub Ruled : (c p o : List ℕ) → Arrival → Rule → Type 0
+Ruled c p o m rule = after c p o m ≡ rule (decode c) (callOf p o m) (header p)
+
+-- m is the message of a packet, whichever it is, that comes down to this rule
+pub record Heard (c : List ℕ) (m : Arrival) (rule : Rule) : Type 0 where
+  pub packet : List ℕ
+  pub output : List ℕ
+  pub taken : Taken c packet output m
+  pub ruled : Ruled c packet output m rule
+
+-- the message's number is the last that its interface has sent
+abbrev pub Echoes : List ℕ → Arrival → Type 0
+Echoes c m = m .sequence ≡ lastSent (decode c .config) (decode c .sends) (m .interface)
+
+-- ---- names for parts of the rules
+
+-- a message whose originator is an own address
+abbrev pub ownMessage : Rule
+ownMessage s a h = branch (isEcho (s .config) (s .sends) a h) (takeEcho table s a h) (verdict table a h 23 (withTime table s (a .time)))
+
+-- one that is neither from nor of this node
+abbrev pub foreign : Rule
+foreign s a h = decide table s a h (hasKey (linkBy a) (s .rows)) (lookup (h .originator) (s .records))
+
+-- 25 or 26, with the originator's record as s has it
+abbrev pub concluded : TableState → ReceiveArgs → Header → (bidirectional duplicate : Bool) → Reply
+concluded s a h b d =
+    let x = lookup (h .originator) (s .records) in
+    conclude a h b (isPassedOn table (s .config) a h b d x) (routeOf table (s .config) x)
+
+-- the field f of an interface stands at a place of its row
+abbrev pub IsFieldAt : (f : Interface → ℕ) (place : ℕ) → Type 0
+IsFieldAt f k = (x : InterfaceRow) → getD (encodeInterface x) k 0 ≡ f (x .0)
+
+-- ---- what is asked where the originator's record was looked for
+
+-- the packet is neither from nor of this node, and its link has a neighbour row or not
+pub record Decides (c p o : List ℕ) (m : Arrival) (bidirectional : Bool) : Type 0 where
+  pub taken : Taken c p o m
+  pub link : bidirectional ≡ hasKey (m .link) (decode c .rows)
+  pub ruled : Ruled c p o m foreign
+
+-- it is counted
+abbrev pub Counts : (c p o : List ℕ) → Arrival → Type 0
+Counts c p o m = Ruled c p o m (λ s a h. counted table s a h (lookup (h .originator) (s .records)))

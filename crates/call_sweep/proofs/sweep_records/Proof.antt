@@ -1,0 +1,36 @@
+-- `sweeping::sweep_records` meets its contract. Assumes nothing.
+use borrow.Author.Needs.{needs}
+use lib.ListN.{length-set}
+use denote.Ref.{now}
+use Rattle.call_sweep.proofs.Steps.{asks, swept-all}
+use Rattle.call_sweep.proofs.sweep_records.Statement.{statement}
+use Rattle.call_sweep.proofs.sweep_records.Tie as tie
+
+keep-recent-requires : tie.Need-keep-recent-requires
+keep-recent-requires c κs =
+    let s = c .before .before .before .before in
+    asks (now (s .args .cells)) (s .pre .0) (s .args .time) (s .pre .1)
+
+slice-write-cells-2 : tie.Need-slice-write-cells-2
+slice-write-cells-2 c = simp length-set (search needs)
+
+returns : tie.Need-returns
+returns c =
+    let s = c .before .before .before .before .before .before .before in
+    swept-all (now (s .args .cells)) (s .pre .0) (s .args .time) (s .pre .1) _ _ (c .before .before .keep-recent .ensures)
+
+pub sweep-records-spec : {M : Type 1} → statement M
+sweep-records-spec =
+    tie.close
+    (tie.spec
+    (λ c. search needs)
+    (λ c. search needs)
+    (λ c. search needs)
+    (λ c. search needs)
+    (λ c. search needs)
+    keep-recent-requires
+    (λ c. search needs)
+    slice-write-cells-2
+    (λ c. search needs)
+    (λ c. search needs)
+    returns)

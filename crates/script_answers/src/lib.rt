@@ -1,0 +1,129 @@
+// Answers as lines of text: each function puts its lines behind the `used` octets of a text, and answers how many are then
+// used.
+use rules::Asked;
+use rules::LinkRow;
+use rules::Received;
+use rules::Route;
+use rules::Written;
+use rules::verdicts::PASSED_ON;
+use script_text::put_line_end;
+use script_text::put_number;
+use script_text::put_octets;
+use script_text::put_word;
+
+// The most rows that a list call fills.
+const LINKS_MOST: usize = 8;
+
+// A word and a number.
+pub fn put_one(text: &mut [u8], used: usize, word: &[u8], number: u64) -> usize {
+    let a = put_word(text, used, word);
+    let b = put_number(text, a, number);
+    put_line_end(text, b)
+}
+
+// The first two numbers of a line, behind its word.
+fn put_begun(text: &mut [u8], used: usize, word: &[u8], first: u64, second: u64) -> usize {
+    let a = put_word(text, used, word);
+    let b = put_number(text, a, first);
+    put_number(text, b, second)
+}
+
+// A word and two numbers.
+pub fn put_two(text: &mut [u8], used: usize, word: &[u8], first: u64, second: u64) -> usize {
+    let a = put_begun(text, used, word, first, second);
+    put_line_end(text, a)
+}
+
+// Neighbour, interface, count and window of a route.
+fn put_route(text: &mut [u8], used: usize, route: Route) -> usize {
+    let a = put_number(text, used, route.neighbour as u64);
+    let b = put_number(text, a, route.interface as u64);
+    let c = put_number(text, b, route.count as u64);
+    put_number(text, c, route.window as u64)
+}
+
+// How many octets of a packet of `length` octets are in the output.
+fn copied(number: u64, length: usize) -> u64 {
+    if number == PASSED_ON {
+        length as u64
+    } else {
+        0
+    }
+}
+
+// The answer to a received packet of `length` octets, with the output as it was left.
+pub fn put_received(text: &mut [u8], used: usize, r: Received, length: usize, out: &[u8]) -> usize {
+    let a = put_begun(text, used, b"receive", r.number, r.place);
+    let b = put_number(text, a, r.flags as u64);
+    let c = put_route(text, b, r.route);
+    let d = put_octets(text, c, out, copied(r.number, length));
+    put_line_end(text, d)
+}
+
+// How many octets of an own packet are in the output.
+fn sent(w: Written) -> u64 {
+    if w.number == 0 { w.length } else { 0 }
+}
+
+// The answer to an own packet, with the output as it was left.
+pub fn put_written(text: &mut [u8], used: usize, w: Written, out: &[u8]) -> usize {
+    let a = put_begun(text, used, b"own", w.number, w.place);
+    let b = put_number(text, a, w.length);
+    let c = put_number(text, b, w.sequence as u64);
+    let d = put_octets(text, c, out, sent(w));
+    put_line_end(text, d)
+}
+
+// The answer to the best question.
+pub fn put_asked(text: &mut [u8], used: usize, r: Asked) -> usize {
+    let a = put_word(text, used, b"best");
+    let b = put_number(text, a, r.number);
+    let c = put_route(text, b, r.route);
+    put_line_end(text, c)
+}
+
+// A row of the list call.
+fn put_row(text: &mut [u8], used: usize, row: LinkRow) -> usize {
+    let a = put_word(text, used, b"row");
+    let route = Route {
+        neighbour: row.neighbour,
+        interface: row.interface,
+        count: row.count,
+        window: row.window,
+    };
+    let b = put_route(text, a, route);
+    let c = put_number(text, b, row.best as u64);
+    put_line_end(text, c)
+}
+
+// The first `n` rows of the list call.
+pub fn put_rows(text: &mut [u8], used: usize, rows: [LinkRow; LINKS_MOST], n: usize) -> usize {
+    let mut at = used;
+    let mut i = 0;
+    while i < LINKS_MOST {
+        if i == n {
+            break;
+        }
+        at = put_row(text, at, rows[i]);
+        i += 1;
+    }
+    at
+}
+
+// A cell, unless it is 0.
+fn put_cell(text: &mut [u8], used: usize, index: usize, value: u64) -> usize {
+    if value == 0 {
+        return used;
+    }
+    put_two(text, used, b"cell", index as u64, value)
+}
+
+pub fn put_cells(text: &mut [u8], used: usize, cells: &[u64]) -> usize {
+    let mut at = used;
+    let mut i = 0;
+    while i < cells.len() {
+        at = put_cell(text, at, i, cells[i]);
+        i += 1;
+    }
+    at
+}

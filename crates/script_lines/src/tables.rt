@@ -1,0 +1,42 @@
+// What make is given: its numbers as settings and interface rows.
+use script_numbers::NUMBERS_MOST;
+use script_numbers::address;
+use script_numbers::sequence;
+use rules::Interface;
+use rules::Settings;
+ghost use Prim.Native.Nat.{_+_, _<_};
+
+// How many numbers stand before the interface rows, and how many a row has.
+const ROWS_FROM: usize = 6;
+
+const ROW: usize = 3;
+
+pub fn settings_of(v: &[u64; NUMBERS_MOST]) -> Settings {
+    Settings {
+        version: v[0],
+        window: v[1],
+        timeout: v[2],
+        purge: v[3],
+        capacity: v[4],
+    }
+}
+
+// The interface row whose numbers begin at `from`.
+fn row_of(v: &[u64; NUMBERS_MOST], from: usize) -> Interface
+    requires { ⌜ from + 2 < 18 ⌝ }
+{
+    Interface {
+        own: address(v[from]),
+        broadcast: address(v[from + 1]),
+        first: sequence(v[from + 2]),
+    }
+}
+
+pub fn rows_of(v: &[u64; NUMBERS_MOST]) -> [Interface; 4] {
+    [
+        row_of(v, ROWS_FROM),
+        row_of(v, ROWS_FROM + ROW),
+        row_of(v, ROWS_FROM + 2 * ROW),
+        row_of(v, ROWS_FROM + 3 * ROW),
+    ]
+}

@@ -1,0 +1,96 @@
+-- `neighbours::record_echo` meets its contract. Assumes nothing.
+use mathlib.Core.Path.{subst}
+use Prim.Native.Nat.{_<_}
+use native.Mathlib.Omega.{arith}
+use borrow.Author.Needs.{needs}
+use denote.Ref.{now}
+use Rattle.cells.specs.declared.Found.{Found}
+use Rattle.cells.specs.Area.{column}
+use Rattle.cells.specs.Pairs.{pairCells}
+use Rattle.cells.specs.Find.{FoundIn, IsAt, IsPlace}
+use Rattle.rules.specs.Settings.{neighbourMost}
+use Rattle.table_neighbours.proofs.Rows.{asks, size, at-room, place-room, recorded-over, recorded-new, no-room}
+use Rattle.table_neighbours.proofs.record_echo.Statement.{statement}
+use Rattle.table_neighbours.proofs.record_echo.Tie as tie
+
+find-requires : tie.Need-find-requires
+find-requires c κs = asks _ _ (c .before .before .pre)
+
+-- where the link's row is, or would be
+at : (c : tie.After-f) → let s = c .before .before .before .before .before in IsAt (column pairCells (s .args .n) (now (s .args .rows))) (s .args .link) (c .f .given .0 .0)
+at c =
+    let s = c .before .before .before .before .before in
+    subst (λ (f : Found). FoundIn (column pairCells (s .args .n) (now (s .args .rows))) (s .args .link) f) (c .f .given .1) (c .before .before .find .ensures)
+
+place : (c : tie.After-f2) → let s = c .before .before .before .before .before in IsPlace (column pairCells (s .args .n) (now (s .args .rows))) (s .args .link) (c .f2 .given .0 .0)
+place c =
+    let s = c .before .before .before .before .before in
+    subst (λ (f : Found). FoundIn (column pairCells (s .args .n) (now (s .args .rows))) (s .args .link) f) (c .f2 .given .1) (c .before .before .find .ensures)
+
+-- there is room for one more
+room : (c : tie.After-put-in-arg) → c .before .before .before .before .before .before .before .before .args .n < neighbourMost
+room c = let m = c .before .before .before .before .before .before .before .before .pre .most in omega (arith, c .before .if1 .left)
+
+mul-write : tie.Need-mul-write
+mul-write c =
+    let f = c .before .before in
+    let s = f .before .before .before .before .before in
+    omega (arith, at-room (s .args .n) (now (s .args .rows)) (s .pre) (s .args .link) (f .f .given .0 .0) (at f))
+
+write-requires : tie.Need-write-requires
+write-requires c κs =
+    let f = c .before .before .before in
+    let s = f .before .before .before .before .before in
+    omega (arith, size (s .args .n) (now (s .args .rows)) (s .pre), at-room (s .args .n) (now (s .args .rows)) (s .pre) (s .args .link) (f .f .given .0 .0) (at f))
+
+returns : tie.Need-returns
+returns c =
+    let f = c .before .before in
+    let s = f .before .before .before .before .before in
+    no-room (s .args .n) (now (s .args .rows)) (s .pre) (s .args .link) (f .f2 .given .0 .0) 0 (now (s .args .rows)) (place f) (c .if1 .taken)
+
+mul-put-in : tie.Need-mul-put-in
+mul-put-in c =
+    let f = c .before .before .before in
+    let s = f .before .before .before .before .before in
+    omega (arith, place-room (s .args .n) (now (s .args .rows)) (s .pre) (s .args .link) (f .f2 .given .0 .0) (place f) (room c))
+
+put-in-requires : tie.Need-put-in-requires
+put-in-requires c κs =
+    let f = c .before .before .before .before in
+    let s = f .before .before .before .before .before in
+    omega (arith, size (s .args .n) (now (s .args .rows)) (s .pre), place-room (s .args .n) (now (s .args .rows)) (s .pre) (s .args .link) (f .f2 .given .0 .0) (place f) (room (c .before)))
+
+returns-2 : tie.Need-returns-2
+returns-2 c =
+    let f = c .before .before .before .before .before .before in
+    let s = f .before .before .before .before .before in
+    recorded-over (s .args .n) (now (s .args .rows)) (s .pre) (s .args .link) (f .f .given .0 .0) (s .args .number) _ (at f) (c .before .before .write .ensures)
+
+returns-3 : tie.Need-returns-3
+returns-3 c =
+    let f = c .before .before .before .before .before .before .before in
+    let s = f .before .before .before .before .before in
+    recorded-new (s .args .n) (now (s .args .rows)) (s .pre) (s .args .link) (f .f2 .given .0 .0) (s .args .number) _ (place f) (room (c .before .before .before .before))
+    (c .before .before .put-in .ensures)
+
+pub record-echo-spec : {M : Type 1} → statement M
+record-echo-spec =
+    tie.close
+    (tie.spec
+    find-requires
+    (λ c. search needs)
+    mul-write
+    (λ c. search needs)
+    write-requires
+    (λ c. search needs)
+    (λ c. search needs)
+    returns
+    mul-put-in
+    (λ c. search needs)
+    put-in-requires
+    (λ c. search needs)
+    (λ c. search needs)
+    returns-2
+    (λ c. search needs)
+    returns-3)

@@ -1,0 +1,197 @@
+-- A record written over its cells, or put in at its place: the cells are those of the table that holds it. Assumes nothing.
+use mathlib.Core.Path.{_≡_, refl, sym, ap, _∙_}
+use mathlib.Core.Bool.{Bool, true, false, cond}
+use mathlib.Core.List.{List, [], _∷_, _++_, map, append-assoc, append-nil}
+use Prim.Native.Nat.{ℕ, _+_, _-_, _*_, _≤_, _<_}
+use native.Mathlib.Omega.{arith}
+use lib.Dec.{leb}
+use lib.ListN.{length, take, drop, set, getD, length-append, length-drop, length-set, length-map}
+use lib.Seq.{length-take-le}
+use borrow.Rule.Slice.PartMut.{putMid, put-same}
+use Rattle.lists.specs.Keyed.{put}
+use Rattle.cells.specs.Area.{putIn, written, insertAt}
+use Rattle.cells.specs.Pairs.{pairRow, pairCells, pairArea}
+use Rattle.cells.specs.Find.{IsAt}
+use Rattle.cells.proofs.Areas.{length-area, take-more, more-back, write-row, put-row}
+use Rattle.cells.proofs.Lent.{part-is, part-length, tail-back}
+use Rattle.cells.proofs.Pairs.{pair-wide}
+use Rattle.cells.proofs.Trips.{length-decoded}
+use Rattle.cells.proofs.Search.{belowKey, aboveKey, Among, among, apart, put-among, put-apart}
+use Rattle.rules.specs.Settings.{interfaceMost, neighbourMost, linkMost, interfaceCells, recordCells}
+use Rattle.rules.specs.Rules.{Ogm}
+use Rattle.rules.specs.Table.{TableRecord, TableState, nextRecord}
+use Rattle.table_record.specs.Record.{encodeRecord, decodeRecord}
+use Rattle.table_record.proofs.Rows.{length-record}
+use Rattle.table_layout.specs.Layout.{capacityAt, recordsAt, recordsFrom, recordPart}
+use Rattle.table_layout.specs.Interfaces.{rowsWith, encodeInterface}
+use Rattle.table_layout.specs.Cells.{headOf, interfaceArea, recordArea, encode, decode}
+use Rattle.table_layout.specs.Facts.{recordAt}
+use Rattle.lists.proofs.Rising.{rising-out}
+use Rattle.table_changes.specs.Changes.{withRecords}
+use Rattle.table_changes.proofs.Parts.{interface-wide, encoded-size, records-lent, records-back}
+use Rattle.table_changes.proofs.Sent.{run-back}
+use Rattle.rules.proofs.WellFormed.{Wf, parts}
+use Rattle.count_in_record.specs.Counting.{Counted}
+use Rattle.table_originators.specs.Originators.{heldBy, recordPlace, Stands, Missing, countedAt, CountedIn}
+
+abbrev Entry : Type 0
+Entry = ℕ × TableRecord
+
+pub records-count : (c : List ℕ) → length (decode c .records) ≡ getD c recordsAt 0
+unfolding decode
+records-count c = length-decoded decodeRecord recordCells (getD c recordsAt 0) (recordPart c)
+
+capacity-is : (c : List ℕ) → decode c .config .settings .capacity ≡ getD c capacityAt 0
+unfolding decode
+capacity-is c = refl
+
+length-insert : (i : ℕ) (e : Entry) (l : List Entry) → i ≤ length l → length (insertAt i e l) ≡ length l + 1
+length-insert i e l h = omega (arith, length-append (take i l) (e ∷ drop i l), length-take-le i l h, length-drop i l)
+
+-- the place of an entry between others
+key-between : (xs ys : List Entry) (e : Entry) → getD (map (λ (e : Entry). e .0) (xs ++ (e ∷ ys))) (length xs) 0 ≡ e .0
+key-between [] ys e = refl
+key-between (x ∷ xs) ys e = key-between xs ys e
+
+put-at : (o i : ℕ) (x : TableRecord) (es : List Entry) → belowKey o es ≡ take i es → i ≤ length es → IsAt (map (λ (e : Entry). e .0) (put o x es)) o i
+put-at o i x es b h =
+    let n : length (belowKey o es) ≡ i = ap length b ∙ length-take-le i es h in
+    record {
+      within = omega (arith, length-map (put o x es) (λ (e : Entry). e .0), length-append (belowKey o es) ((o, x) ∷ aboveKey o es));
+      same = ap (λ (j : ℕ). getD (map (λ (e : Entry). e .0) (put o x es)) j 0) (sym n) ∙ key-between (belowKey o es) (aboveKey o es) (o, x);
+    }
+
+-- ---- one record of a table
+
+module _ (s : TableState) (few : length (s .records) ≤ s .config .settings .capacity) (i : ℕ) (e : Entry) where
+  abbrev area : List Entry → List ℕ
+  area es = recordArea (s .config .settings .capacity) es
+
+  -- the cells before n records
+  abbrev front : (n : ℕ) → List ℕ
+  front n = take recordsAt (headOf s) ++ (n ∷ []) ++ (interfaceArea s ++ pairArea neighbourMost (s .rows))
+
+  length-front : (n : ℕ) → length (front n) ≡ recordsFrom
+  length-front n =
+      let f : length (interfaceArea s) ≡ 20 = length-area encodeInterface interfaceCells interface-wide interfaceMost (rowsWith (s .sends) 0 (s .config .interfaces)) in
+      let r : length (pairArea neighbourMost (s .rows)) ≡ 64 = length-area pairRow pairCells pair-wide neighbourMost (s .rows) in
+      omega (arith, length-append (take recordsAt (headOf s) ++ (n ∷ [])) (interfaceArea s ++ pairArea neighbourMost (s .rows)), length-append (interfaceArea s) (pairArea neighbourMost (s .rows)))
+
+  fronted : (es : List Entry) → encode (withRecords es s) ≡ front (length es) ++ (area es ++ [])
+  unfolding encode
+  fronted es = simp (append-assoc, append-nil)
+
+  -- written over
+  row-over : i < length (s .records) → putMid (recordPlace i) recordCells (encode s) (encodeRecord e) ≡ encode (withRecords (set (s .records) i e) s)
+  row-over h =
+      let n = length (s .records) in
+      let y = encodeRecord e in
+      let w : i * recordCells + recordCells ≤ length (area (s .records)) = omega (arith, length-area encodeRecord recordCells length-record (s .config .settings .capacity) (s .records)) in
+      ap (λ (c : List ℕ). putMid (recordPlace i) recordCells c y) (fronted (s .records))
+      ∙ ap (λ (k : ℕ). putMid (k + i * recordCells) recordCells (front n ++ (area (s .records) ++ [])) y) (sym (length-front n))
+      ∙ run-back (front n) (area (s .records)) [] (i * recordCells) recordCells w y (length-record e)
+      ∙ ap (λ (l : List ℕ). front n ++ (l ++ [])) (write-row encodeRecord recordCells length-record (s .config .settings .capacity) (s .records) few i e h)
+      ∙ ap (λ (k : ℕ). front k ++ (area (set (s .records) i e) ++ [])) (sym (length-set (s .records) i e))
+      ∙ sym (fronted (set (s .records) i e))
+
+  -- put in, where the cells of n records are lent, room for one more among them
+  row-in : i ≤ length (s .records) → (n : ℕ) → n ≡ length (s .records) + 1 → n ≤ s .config .settings .capacity
+      → set (putMid recordsFrom (n * recordCells) (encode s) (putIn (take (n * recordCells) (drop recordsFrom (encode s))) (i * recordCells) (encodeRecord e))) recordsAt n
+      ≡ encode (withRecords (insertAt i e (s .records)) s)
+  row-in h n en room =
+      let es = insertAt i e (s .records) in
+      let ln : length es ≡ n = length-insert i e (s .records) h ∙ sym en in
+      let lent : take (n * recordCells) (drop recordsFrom (encode s)) ≡ recordArea n (s .records) =
+      ap (take (n * recordCells)) (records-lent s) ∙ take-more encodeRecord recordCells length-record n (s .config .settings .capacity) (s .records) (omega arith) room in
+      let y : putIn (take (n * recordCells) (drop recordsFrom (encode s))) (i * recordCells) (encodeRecord e) ≡ recordArea n es =
+      ap (λ (l : List ℕ). putIn l (i * recordCells) (encodeRecord e)) lent ∙ put-row encodeRecord recordCells length-record n (s .records) (omega arith) i e h in
+      let back : putMid recordsFrom (n * recordCells) (encode s) (recordArea n es) ≡ putMid recordsFrom (length (encode s) - recordsFrom) (encode s) (area es) =
+      ap (λ (l : List ℕ). take recordsFrom (encode s) ++ (recordArea n es ++ drop (n * recordCells) l)) (records-lent s)
+      ∙ ap (λ (l : List ℕ). take recordsFrom (encode s) ++ l) (more-back encodeRecord recordCells length-record n (s .config .settings .capacity) (s .records) es (omega arith) (omega arith) room)
+      ∙ sym (tail-back (encode s) recordsFrom (area es) (encoded-size s)) in
+      ap (λ (l : List ℕ). set (putMid recordsFrom (n * recordCells) (encode s) l) recordsAt n) y
+      ∙ ap (λ (l : List ℕ). set l recordsAt n) back
+      ∙ ap (set (putMid recordsFrom (length (encode s) - recordsFrom) (encode s) (area es)) recordsAt) (sym ln)
+      ∙ records-back s es (length (encode s) - recordsFrom) refl
+
+-- ---- the record of an originator, in a well-formed table's cells
+
+module _ (c : List ℕ) (o i : ℕ) where
+  abbrev records : List Entry
+  records = decode c .records
+
+  -- the table with the record x of o
+  abbrev with : TableRecord → TableState
+  with x = withRecords (put o x records) (decode c)
+
+  -- over the record that it has
+  module _ (s : Stands c o i) where
+    within : i < length records
+    within = omega (arith, s .at .within, length-map records (λ (e : Entry). e .0))
+
+    well : Wf (decode c)
+    well = parts (decode c) (s .holds .knows .valid)
+
+    about : Among o i records
+    about = among o i records (rising-out records (well .records .rise)) (s .at)
+
+    written-record : (x : TableRecord) → putMid (recordPlace i) recordCells c (encodeRecord (o, x)) ≡ encode (with x)
+    written-record x =
+        ap (λ (l : List ℕ). putMid (recordPlace i) recordCells l (encodeRecord (o, x))) (sym (s .holds .knows .cells))
+        ∙ row-over (decode c) (well .records .most) i (o, x) within
+        ∙ ap (λ (es : List Entry). encode (withRecords es (decode c))) (sym (put-among o i x records within about))
+
+    pub written-at : (x : TableRecord) → IsAt (heldBy (with x)) o i
+    written-at x = put-at o i x records (about .below) (omega (arith, within))
+
+    -- the row as it is lent
+    lent-is : take (recordPlace i + recordCells - recordPlace i) (drop (recordPlace i) c) ≡ recordAt c i
+    lent-is = part-is c (recordPlace i) recordCells (s .holds .fits)
+
+    pub counted-in : (m : Ogm) (y : List ℕ) (r : Bool) → Counted (decode c .config) m (take (recordPlace i + recordCells - recordPlace i) (drop (recordPlace i) c)) y r
+        → CountedIn c (putMid (recordPlace i) (recordPlace i + recordCells - recordPlace i) c y) o i m r
+    counted-in m y r w =
+        let x = countedAt c i m in
+        let e : y ≡ cond r (encodeRecord (o, x)) (recordAt c i) =
+        w .cells ∙ ap (λ (l : List ℕ). cond r (encodeRecord (decodeRecord l .0, nextRecord (decode c .config) m (decodeRecord l .1))) l) lent-is
+        ∙ ap (λ (k : ℕ). cond r (encodeRecord (k, x)) (recordAt c i)) (s .key) in
+        let n : recordPlace i + recordCells - recordPlace i ≡ recordCells = omega arith in
+        record {
+          taken = w .taken ∙ ap (λ (l : List ℕ). leb (length (nextRecord (decode c .config) m (decodeRecord l .1) .links)) linkMost) lent-is;
+          cells = ap (λ (k : ℕ). putMid (recordPlace i) k c y) n ∙ ap (putMid (recordPlace i) recordCells c) e ∙ go r;
+        }
+      where
+        go : (r : Bool) → putMid (recordPlace i) recordCells c (cond r (encodeRecord (o, countedAt c i m)) (recordAt c i)) ≡ encode (cond r (with (countedAt c i m)) (decode c))
+        go true = written-record (countedAt c i m)
+        go false = put-same (recordPlace i) recordCells c ∙ sym (s .holds .knows .cells)
+
+  -- at the place of one that it lacks
+  module _ (s : Missing c o i) where
+    place-within : i ≤ length records
+    place-within = omega (arith, s .place .within, length-map records (λ (e : Entry). e .0))
+
+    -- the cells of the records with room for one more
+    abbrev more : ℕ
+    more = (getD c recordsAt 0 + 1) * recordCells
+
+    module _ (h : getD c recordsAt 0 < getD c capacityAt 0) where
+      pub more-fits : recordsFrom + more ≤ length c
+      more-fits = omega (arith, s .knows .sized .size)
+
+      -- there is room for its cells
+      pub place-fits : i * recordCells + recordCells ≤ length (take (recordsFrom + more - recordsFrom) (drop recordsFrom c))
+      place-fits = omega (arith, place-within, records-count c, part-length c recordsFrom more more-fits)
+
+      pub record-in : (x : TableRecord) (y z : List ℕ) → y ≡ encodeRecord (o, x) → z ≡ putIn (take (recordsFrom + more - recordsFrom) (drop recordsFrom c)) (i * recordCells) y
+          → set (putMid recordsFrom (recordsFrom + more - recordsFrom) c z) recordsAt (getD c recordsAt 0 + 1) ≡ encode (with x)
+      record-in x y z ey ez =
+          let n = getD c recordsAt 0 + 1 in
+          let k : recordsFrom + more - recordsFrom ≡ n * recordCells = omega arith in
+          let room : n ≤ decode c .config .settings .capacity = omega (arith, capacity-is c) in
+          ap (λ (l : List ℕ). set (putMid recordsFrom (recordsFrom + more - recordsFrom) c l) recordsAt n) (ez ∙ ap (putIn (take (recordsFrom + more - recordsFrom) (drop recordsFrom c)) (i * recordCells)) ey)
+          ∙ (λ j. set (putMid recordsFrom (k j) (sym (s .knows .cells) j) (putIn (take (k j) (drop recordsFrom (sym (s .knows .cells) j))) (i * recordCells) (encodeRecord (o, x)))) recordsAt n)
+          ∙ row-in (decode c) (parts (decode c) (s .knows .valid) .records .most) i (o, x) place-within n (ap (λ (m : ℕ). m + 1) (sym (records-count c))) room
+          ∙ ap (λ (es : List Entry). encode (withRecords es (decode c))) (sym (put-apart o i x records (apart o i records (s .place))))
+
+    pub in-at : (x : TableRecord) → IsAt (heldBy (with x)) o i
+    in-at x = put-at o i x records (apart o i records (s .place) .below) place-within

@@ -1,0 +1,60 @@
+-- The originators' records in a table's cells.
+use Prim.Native.Nat.{ℕ, _+_, _*_, _≤_}
+use mathlib.Core.Path.{_≡_}
+use mathlib.Core.Bool.{Bool, cond}
+use mathlib.Core.List.{List, map}
+use mathlib.Core.Option.{none, some}
+use lib.Dec.{leb}
+use lib.ListN.{length}
+use Rattle.lists.specs.Keyed.{lookup, put}
+use Rattle.cells.specs.Find.{IsAt, IsPlace}
+use Rattle.cells.specs.declared.Found.{Found}
+use Rattle.cells.specs.declared.Found.the-variants.{At, Place}
+use Rattle.rules.specs.Settings.{linkMost, recordCells}
+use Rattle.rules.specs.Rules.{Ogm}
+use Rattle.rules.specs.Table.{TableRecord, TableState, nextRecord}
+use Rattle.table_record.specs.Record.{decodeRecord, Held}
+use Rattle.table_layout.specs.Layout.{recordsFrom}
+use Rattle.table_layout.specs.Cells.{encode, decode}
+use Rattle.table_layout.specs.Facts.{Knows, recordAt}
+use Rattle.table_changes.specs.Changes.{withRecords}
+
+-- the originators held, in table order
+abbrev pub heldBy : TableState → List ℕ
+heldBy s = map (λ (e : ℕ × TableRecord). e .0) (s .records)
+
+-- where the cells of record i begin
+abbrev pub recordPlace : (i : ℕ) → ℕ
+recordPlace i = recordsFrom + i * recordCells
+
+-- a well-formed table's cells hold a record at place i
+pub record Holds (c : List ℕ) (i : ℕ) : Type 0 where
+  pub knows : Knows c
+  pub fits : recordPlace i + recordCells ≤ length c
+  pub row : Held (recordAt c i)
+
+-- it is that of originator o
+pub record Stands (c : List ℕ) (o i : ℕ) : Type 0 where
+  pub holds : Holds c i
+  pub at : IsAt (heldBy (decode c)) o i
+  pub key : decodeRecord (recordAt c i) .0 ≡ o
+  pub found : lookup o (decode c .records) ≡ some (decodeRecord (recordAt c i) .1)
+
+-- o has no record, and would have it at place i
+pub record Missing (c : List ℕ) (o i : ℕ) : Type 0 where
+  pub knows : Knows c
+  pub place : IsPlace (heldBy (decode c)) o i
+  pub none : lookup o (decode c .records) ≡ none
+
+abbrev pub RecordFound : List ℕ → (o : ℕ) → Found → Type 0
+RecordFound c o (At i) = Stands c o i
+RecordFound c o (Place i) = Missing c o i
+
+-- the record of o once a message is counted in it
+abbrev pub countedAt : List ℕ → (i : ℕ) → Ogm → TableRecord
+countedAt c i m = nextRecord (decode c .config) m (decodeRecord (recordAt c i) .1)
+
+-- the cells d are those of the table with that record; or, exactly where more than 8 links would have marks or be best, nothing changes
+pub record CountedIn (c d : List ℕ) (o i : ℕ) (m : Ogm) (answer : Bool) : Type 0 where
+  pub taken : answer ≡ leb (length (countedAt c i m .links)) linkMost
+  pub cells : d ≡ encode (cond answer (withRecords (put o (countedAt c i m) (decode c .records)) (decode c)) (decode c))

@@ -1,0 +1,121 @@
+-- From a record to its cells and back, and what the check of the cells tells. Assumes nothing.
+use mathlib.Core.Path.{_≡_, refl, sym, ap, _∙_, subst}
+use mathlib.Core.List.{List, _∷_}
+use mathlib.Core.Option.{Option, none, some}
+use mathlib.Core.Bool.{Bool, true, false, false≢true}
+use Prim.Native.Nat.{ℕ, _+_, _*_, _-_, _/_, _≤_, _<_}
+use native.Mathlib.Omega.{arith}
+use lib.Dec.{leb, ltb}
+use lib.ListN.{length, drop, getD, length-append, length-drop}
+use lib.Seq.{drop-drop}
+use borrow.Author.Tests.{lt-ltb, le-ltb, ltb-true, ltb-false, leb-true}
+use Rattle.lists.specs.Lists.{maybe, and, all}
+use Rattle.lists.specs.Keyed.{lookup}
+use Rattle.cells.specs.Area.{allZero}
+use Rattle.cells.specs.Pairs.{pairRow, pairCells, pairArea, pairsOf}
+use Rattle.lists.proofs.Keyed.{lookup-all}
+use Rattle.lists.proofs.Tests.{and-left, and-right, both, and-at}
+use Rattle.cells.proofs.Areas.{length-area}
+use Rattle.cells.proofs.Pairs.{pair-wide, pairs-trip, pairs-area, pairs-rest, length-pairs}
+use Rattle.cells.proofs.Lent.{cells-from}
+use Rattle.rules.specs.Settings.{Config, linkMost, linkCells, recordHeadCells, recordCells, isAddress}
+use Rattle.rules.specs.Calls.{neighbourOf}
+use Rattle.rules.specs.Table.{TableRecord}
+use Rattle.rules.specs.WellFormed.{linkTests, recordTests}
+use Rattle.table_record.specs.Record.{currentAt, lastTtlAt, linksAt, bestAt, fieldsOf, encodeRecord, linksOf, decodeRecord, unusedLinks, recordOk, Held}
+
+-- a pair whose address is in its range
+pub small-pair : (k : ℕ) → ltb k 17179869184 ≡ isAddress (neighbourOf k)
+unfolding neighbourOf
+small-pair k = go (ltb k 17179869184) refl
+  where
+    go : (b : Bool) → ltb k 17179869184 ≡ b → b ≡ ltb (k / 4) 4294967296
+    go true e = let h = ltb-true k 17179869184 e in sym (lt-ltb (k / 4) 4294967296 (omega arith))
+    go false e = let h = ltb-false k 17179869184 e in sym (le-ltb (k / 4) 4294967296 (omega arith))
+
+pub length-record : (e : ℕ × TableRecord) → length (encodeRecord e) ≡ recordCells
+unfolding encodeRecord
+length-record e = length-append (fieldsOf e) (pairArea linkMost (e .1 .links)) ∙ ap (λ (k : ℕ). recordHeadCells + k) (length-area pairRow pairCells pair-wide linkMost (e .1 .links))
+
+-- a record's key is its originator's address
+pub record-key : (row : List ℕ) → decodeRecord row .0 ≡ getD row 0 0
+unfolding decodeRecord
+record-key row = refl
+
+-- ---- from a record to its cells and back
+
+pub record-back : (e : ℕ × TableRecord) → length (e .1 .links) ≤ linkMost → decodeRecord (encodeRecord e) ≡ e
+unfolding decodeRecord encodeRecord
+record-back e h =
+    let ls = pairs-area linkMost (e .1 .links) h in
+    λ i. (e .0, record { current = e .1 .current; time = e .1 .time; lastTtl = e .1 .lastTtl; best = e .1 .best; links = ls i })
+
+links-few : (κ : Config) (now : ℕ) (e : ℕ × TableRecord) → and (recordTests κ now e) ≡ true → length (e .1 .links) ≤ linkMost
+links-few κ now e h =
+    let n = length (e .1 .links) in
+    leb-true n linkMost (and-right (leb 1 n) (leb n linkMost) (and-at (recordTests κ now e) h 6))
+
+-- a record that passes is decoded again
+pub valid-back : (κ : Config) (now : ℕ) (e : ℕ × TableRecord) → and (recordTests κ now e) ≡ true → decodeRecord (encodeRecord e) ≡ e
+valid-back κ now e h = record-back e (links-few κ now e h)
+
+unused-zero : (e : ℕ × TableRecord) → allZero (unusedLinks (encodeRecord e)) ≡ true
+unfolding encodeRecord
+unused-zero e = ap allZero (sym (drop-drop (length (e .1 .links) * linkCells) recordHeadCells (encodeRecord e))) ∙ pairs-rest linkMost (e .1 .links)
+
+-- its cells pass
+pub record-passes : (κ : Config) (now : ℕ) (e : ℕ × TableRecord) → and (recordTests κ now e) ≡ true → recordOk κ now (encodeRecord e) ≡ true
+unfolding recordOk
+record-passes κ now e h = both (ap (λ (x : ℕ × TableRecord). and (recordTests κ now x)) (valid-back κ now e h) ∙ h) (unused-zero e)
+
+-- ---- what cells that pass tell
+
+module _ (κ : Config) (now : ℕ) (row : List ℕ) (ok : recordOk κ now row ≡ true) where
+  pub record-valid : and (recordTests κ now (decodeRecord row)) ≡ true
+  unfolding recordOk
+  record-valid = and-left (and (recordTests κ now (decodeRecord row))) (allZero (unusedLinks row)) ok
+
+  pub record-unused : allZero (unusedLinks row) ≡ true
+  unfolding recordOk
+  record-unused = and-right (and (recordTests κ now (decodeRecord row))) (allZero (unusedLinks row)) ok
+
+  few : getD row linksAt 0 ≤ linkMost
+  unfolding decodeRecord
+  few = subst (λ (k : ℕ). k ≤ linkMost) (length-pairs (getD row linksAt 0) (drop recordHeadCells row)) (links-few κ now (decodeRecord row) record-valid)
+
+  -- best is a held link's pair
+  best-small : getD row bestAt 0 < 17179869184
+  unfolding decodeRecord
+  best-small =
+      let ts = recordTests κ now (decodeRecord row) in
+      go (lookup (getD row bestAt 0) (linksOf row)) refl (and-at ts record-valid 8) (and-at ts record-valid 7)
+    where
+      go : (o : Option ℕ) → lookup (getD row bestAt 0) (linksOf row) ≡ o → all (λ l. and (linkTests κ (getD row bestAt 0) l)) (linksOf row) ≡ true → maybe o false (λ v. true) ≡ true → getD row bestAt 0 < 17179869184
+      go none e a h = absurd (false≢true h)
+      go (some v) e a h =
+          let b = getD row bestAt 0 in
+          ltb-true b 17179869184 (small-pair b ∙ and-at (linkTests κ b (b, v)) (lookup-all (λ l. and (linkTests κ b l)) b v (linksOf row) a e) 0)
+
+  module _ (size : length row ≡ recordCells) where
+    pub record-held : Held row
+    unfolding decodeRecord
+    record-held =
+        let ts = recordTests κ now (decodeRecord row) in
+        record {
+          size = size;
+          current = ltb-true (getD row currentAt 0) 65536 (and-at ts record-valid 2);
+          ttl = ltb-true (getD row lastTtlAt 0) 256 (and-at ts record-valid 4);
+          few = few;
+          best = best-small;
+          rises = and-at ts record-valid 5;
+        }
+
+    pub record-trip : encodeRecord (decodeRecord row) ≡ row
+    unfolding encodeRecord decodeRecord
+    record-trip =
+        let n = getD row linksAt 0 in
+        let part = drop recordHeadCells row in
+        let len : length part ≡ linkMost * pairCells = length-drop recordHeadCells row ∙ (omega arith) in
+        let z : allZero (drop (n * pairCells) part) ≡ true = ap allZero (drop-drop (n * pairCells) recordHeadCells row) ∙ record-unused in
+        let ls : pairArea linkMost (pairsOf n part) ≡ part = pairs-trip linkMost n part len few z in
+        (λ i. getD row 0 0 ∷ getD row 1 0 ∷ getD row 2 0 ∷ getD row 3 0 ∷ length-pairs n part i ∷ getD row 5 0 ∷ ls i) ∙ sym (cells-from 0 recordHeadCells row (omega arith))

@@ -1,0 +1,60 @@
+-- What a record's cells are held to, as the check carries it along.
+use mathlib.Core.Path.{_≡_}
+use mathlib.Core.List.{List, [], _∷_}
+use mathlib.Core.Bool.{Bool, true, _&&_, _||_, not}
+use Prim.Native.Nat.{ℕ, _^_, _≤_, _<_}
+use lib.Dec.{leb, ltb, eqb}
+use lib.ListN.{length, getD}
+use Rattle.lists.specs.Lists.{and, all, elem}
+use Rattle.lists.specs.Keyed.{rising, hasKey}
+use Rattle.window.specs.Window.{hasMark}
+use Rattle.rules.specs.Settings.{Config, linkMost, windowMost, within, isOctet, isAddress, isNumber, isOwn}
+use Rattle.rules.specs.WellFormed.{linkTests}
+use Rattle.table_record_check.specs.declared.Limits.{Limits}
+use Rattle.table_record.specs.Record.{addressAt, currentAt, timeAt, lastTtlAt, linksAt, recordOk}
+
+abbrev pub ownOf : Limits → List ℕ
+ownOf l = l .own_0 ∷ l .own_1 ∷ l .own_2 ∷ l .own_3 ∷ []
+
+-- the limits are those of a table
+pub record Describes (κ : Config) (now : ℕ) (l : Limits) : Type 0 where
+  pub window : l .window ≡ κ .settings .window
+  pub used : l .used ≡ length (κ .interfaces)
+  pub time : l .time ≡ now
+  pub own : (a : ℕ) → elem a (ownOf l) ≡ isOwn κ a
+
+-- a window size that is allowed
+pub record Windowed (l : Limits) : Type 0 where
+  pub least : 1 ≤ l .window
+  pub most : l .window ≤ windowMost
+
+-- the tests of the fields before the links, where addresses below `low` are passed
+abbrev pub fieldsOk : Config → (now low : ℕ) → List ℕ → Bool
+fieldsOk κ now low row =
+    leb low (getD row addressAt 0)
+    && (isAddress (getD row addressAt 0)
+    && (not (isOwn κ (getD row addressAt 0))
+    && (isNumber (getD row currentAt 0) && (leb (getD row timeAt 0) now && (isOctet (getD row lastTtlAt 0) && within 1 linkMost (getD row linksAt 0))))))
+
+-- marks that a link may have: none outside the window, and one at least unless it is best
+abbrev pub marksOk : (W best pair marks : ℕ) → Bool
+marksOk W best pair marks = ltb marks (2 ^ W) && (hasMark marks || eqb pair best)
+
+-- links that may be held: each by itself, rising by the pair, best among them
+abbrev pub linksOk : Config → (best : ℕ) → List (ℕ × ℕ) → Bool
+linksOk κ best ls = rising ls && all (λ l. and (linkTests κ best l)) ls && hasKey best ls
+
+-- ---- what the checks answer, of every table that the limits are those of; a key that passes leaves room for the next
+
+pub record LinkChecked (l : Limits) (best low pair marks : ℕ) (r : Bool) : Type 0 where
+  pub small : r ≡ true → pair < 17179869184
+  pub tests : (κ : Config) (now : ℕ) → Describes κ now l → r ≡ leb low pair && and (linkTests κ best (pair, marks))
+
+pub record FieldsChecked (l : Limits) (low : ℕ) (row : List ℕ) (r : Bool) : Type 0 where
+  pub small : r ≡ true → getD row addressAt 0 < 4294967296
+  pub few : r ≡ true → getD row linksAt 0 ≤ linkMost
+  pub tests : (κ : Config) (now : ℕ) → Describes κ now l → r ≡ fieldsOk κ now low row
+
+pub record RecordChecked (l : Limits) (low : ℕ) (row : List ℕ) (r : Bool) : Type 0 where
+  pub small : r ≡ true → getD row addressAt 0 < 4294967296
+  pub tests : (κ : Config) (now : ℕ) → Describes κ now l → r ≡ leb low (getD row addressAt 0) && recordOk κ now row

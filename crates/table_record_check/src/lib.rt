@@ -1,0 +1,113 @@
+// The check of one originator's record, which the check of a table makes of each.
+use cells::all_zero;
+use table_record::ADDRESS;
+use table_record::ADDRESSES;
+use table_record::BEST;
+use table_record::CURRENT;
+use table_record::FIELDS;
+use table_record::INTERFACES;
+use table_record::LAST_TTL;
+use table_record::LINK;
+use table_record::LINKS;
+use table_record::NUMBERS;
+use table_record::OCTETS;
+use table_record::PAIRS;
+use table_record::ROOM;
+use table_record::TIME;
+use window::fits;
+ghost use mathlib.Core.Path.{_≡_};
+ghost use Prim.Native.Nat.{ℕ, _*_, _≤_};
+ghost use lib.ListN.{length};
+ghost use Rattle.lists.specs.Lists.{elem};
+ghost use Rattle.cells.specs.Pairs.{pairsOf};
+ghost use Rattle.rules.specs.Settings.{Config, windowMost, linkCells, recordCells};
+ghost use Rattle.table_record_check.specs.Limits.{Describes, Windowed, ownOf, marksOk, linksOk, FieldsChecked, LinkChecked, RecordChecked};
+
+// What a record is held to: window, interfaces in use, the table's time, and the own addresses, the first again for each that is not in use.
+pub struct Limits {
+    pub window: u64,
+    pub used: u64,
+    pub time: u64,
+    pub own_0: u64,
+    pub own_1: u64,
+    pub own_2: u64,
+    pub own_3: u64,
+}
+
+fn is_own(limits: Limits, a: u64) -> bool
+    ensures { λ r. ⌜ r ≡ elem a (ownOf limits) ⌝ }
+{
+    (a == limits.own_0) | ((a == limits.own_1) | ((a == limits.own_2) | (a == limits.own_3)))
+}
+
+// Whether a link may have these marks: none outside the window, and one at least unless it is best. The first test is nearly always met.
+fn marks_ok(window: u64, best: u64, pair: u64, marks: u64) -> bool
+    requires { ⌜ (1 ≤ window) × (window ≤ windowMost) ⌝ }
+    ensures { λ r. ⌜ r ≡ marksOk window best pair marks ⌝ }
+{
+    if (0 < marks) & fits(window, marks) {
+        return true;
+    }
+    (marks == 0) & (pair == best)
+}
+
+// Whether a link may be held, where pairs below `low` are passed.
+fn link_ok(limits: Limits, best: u64, low: u64, pair: u64, marks: u64) -> bool
+    requires { ⌜ Windowed limits ⌝ }
+    ensures { λ r. ⌜ LinkChecked limits best low pair marks r ⌝ }
+{
+    if !((low <= pair) & ((pair < PAIRS) & (pair % INTERFACES < limits.used))) {
+        return false;
+    }
+    marks_ok(limits.window, best, pair, marks)
+}
+
+// Whether the links may be held: each by itself, rising by the pair, best among them.
+fn links_ok(part: &[u64], n: usize, limits: Limits, best: u64) -> bool
+    requires { ⌜ (n * linkCells ≤ length (now part)) × Windowed limits ⌝ }
+    ensures { λ r. ⌜ ((κ : Config) (time : ℕ) → Describes κ time limits → r ≡ linksOk κ best (pairsOf n (now (part .entry)))) ⌝ }
+{
+    let mut low: u64 = 0;
+    let mut held = false;
+    let mut at = 0;
+    let mut left = n;
+    while 0 < left {
+        let pair = part[at];
+        if !link_ok(limits, best, low, pair, part[at + 1]) {
+            break;
+        }
+        held = held | (best == pair);
+        low = pair + 1;
+        at += LINK;
+        left -= 1;
+    }
+    (left == 0) & held
+}
+
+// Whether the fields before the links are in their ranges, where addresses below `low` are passed.
+fn fields_ok(row: &[u64], low: u64, limits: Limits) -> bool
+    requires { ⌜ length (now row) ≡ recordCells ⌝ }
+    ensures { λ r. ⌜ FieldsChecked limits low (now (row .entry)) r ⌝ }
+{
+    let address = row[ADDRESS];
+    let links = row[LINKS];
+    (low <= address)
+        & ((address < ADDRESSES)
+            & (!is_own(limits, address)
+                & ((row[CURRENT] < NUMBERS)
+                    & ((row[TIME] <= limits.time)
+                        & ((row[LAST_TTL] < OCTETS) & ((1 <= links) & (links <= ROOM)))))))
+}
+
+// Whether the cells are those of a record by the rules, where addresses below `low` are passed.
+pub fn record_ok(row: &[u64], low: u64, limits: Limits) -> bool
+    requires { ⌜ (length (now row) ≡ recordCells) × Windowed limits ⌝ }
+    ensures { λ r. ⌜ RecordChecked limits low (now (row .entry)) r ⌝ }
+{
+    if !fields_ok(row, low, limits) {
+        return false;
+    }
+    let links = row[LINKS] as usize;
+    let end = FIELDS + links * LINK;
+    links_ok(&row[FIELDS..], links, limits, row[BEST]) & all_zero(&row[end..])
+}
