@@ -223,8 +223,8 @@ static uint64_t damaged(uint64_t cell)
 static size_t damaged_place(size_t count)
 {
     switch (below(3)) {
-    case 0: return below(93);
-    case 1: return 93 + 22 * below((count - 93) / 22) + below(8);
+    case 0: return below(BATMAN_TABLE_CELLS);
+    case 1: return BATMAN_TABLE_CELLS + BATMAN_RECORD_CELLS * below((count - BATMAN_TABLE_CELLS) / BATMAN_RECORD_CELLS) + below(8);
     default: return below(count);
     }
 }

@@ -2,6 +2,7 @@
 //! No marks are kept anywhere: every word (current, duplicate, count, best, held links) is
 //! computed from the lists of counted originator messages by `words.rs`.
 
+use crate::cells::cells_needed;
 use crate::packet::{self, Header, DIRECT, HEADER_OCTETS, UNIDIRECTIONAL};
 use crate::words::{self, Counted, Link, Words};
 use std::collections::BTreeMap;
@@ -139,15 +140,6 @@ pub struct Book {
     pub echoes: BTreeMap<Link, u64>,
     /// For each originator, the counted messages; a list is never left empty here.
     pub lists: BTreeMap<u32, Vec<Counted>>,
-}
-
-/// How many cells a capacity needs, 0 where it is not allowed.
-pub fn cells_needed(capacity: u64) -> u64 {
-    if (1..=CAPACITY_MOST).contains(&capacity) {
-        93 + 22 * capacity
-    } else {
-        0
-    }
 }
 
 impl Book {

@@ -8,7 +8,8 @@ mod odd;
 mod random;
 mod stage;
 
-use crate::book::{cells_needed, Book, Settings};
+use crate::book::{Book, Settings};
+use crate::cells::cells_needed;
 use crate::play::{self, Player};
 use crate::script::{self, Call, Line};
 use crate::words::Link;

@@ -46,7 +46,7 @@ impl Player {
     /// Writes the book into the buffer if that is still to be done.
     fn settle(&mut self) {
         if let (true, Some(book)) = (self.stale, &self.book) {
-            let needed = book::cells_needed(book.settings.capacity) as usize;
+            let needed = cells::cells_needed(book.settings.capacity) as usize;
             cells::encode(book, &mut self.buffer[..needed]);
         }
         self.stale = false;
@@ -70,7 +70,7 @@ impl Player {
         self.settle();
         let lent = &self.buffer[..self.lent];
         if let Some(book) = &self.book {
-            let mut expected = vec![0; book::cells_needed(book.settings.capacity) as usize];
+            let mut expected = vec![0; cells::cells_needed(book.settings.capacity) as usize];
             cells::encode(book, &mut expected);
             if lent == expected {
                 return Lent::Book;
@@ -96,7 +96,7 @@ impl Player {
     pub fn call(&mut self, call: &Call, out: &mut Vec<u8>) -> Result<(), OutsideBook> {
         match call {
             Call::Size { capacity } => {
-                say(out, b"size", &[book::cells_needed(*capacity)]);
+                say(out, b"size", &[cells::cells_needed(*capacity)]);
                 end(out);
             }
             Call::Cells { lent } => self.lend(*lent),

@@ -2,7 +2,8 @@
 
 use super::stage::Kind;
 use super::{breaks, odd, Generator};
-use crate::book::{cells_needed, Settings, LINKS_MOST};
+use crate::book::{Settings, LINKS_MOST};
+use crate::cells::{capacity_of, cells_needed, record, RECORDS};
 use crate::play::{self, Lent};
 use crate::script::BUFFER_CELLS;
 
@@ -194,25 +195,26 @@ impl Generator<'_> {
     /// Lends another number of cells for some calls.
     pub(super) fn wrong_number_of_cells(&mut self) {
         let needed = cells_needed(self.settings().capacity);
+        let (before_records, a_record) = (RECORDS as u64, record::CELLS as u64);
         let any = self.random.below(BUFFER_CELLS as u64 + 1);
         let lent = self.random.pick(&[
             needed - 1,
             needed + 1,
-            needed - 22,
-            needed + 22,
+            needed - a_record,
+            needed + a_record,
             0,
             1,
-            92,
-            93,
+            before_records - 1,
+            before_records,
             any,
             BUFFER_CELLS as u64,
         ]);
         self.say(format!("cells {lent}"));
         if self.player.state() == Lent::Broken {
             self.calls_meanwhile();
-            if self.random.chance(100) && lent > 93 {
+            if self.random.chance(100) && lent > before_records {
                 let mut settings = self.settings();
-                settings.capacity = (lent - 93) / 22;
+                settings.capacity = capacity_of(lent);
                 self.make(&settings);
             }
         }
