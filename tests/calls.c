@@ -198,6 +198,47 @@ static void listing(void)
     expect("the row behind", memcmp(&rows[BATMAN_LINKS_MOST], &before[BATMAN_LINKS_MOST], sizeof rows[0]) != 0, 0);
 }
 
+/* ---- a table with one cell changed: each of its bits, by one, to the least and to the largest number */
+
+enum { CHANGES = 64 + 4 };
+
+static uint64_t changed(uint64_t cell, unsigned change)
+{
+    switch (change) {
+    case 64: return 0;
+    case 65: return UINT64_MAX;
+    case 66: return cell + 1;
+    case 67: return cell - 1;
+    default: return cell ^ (uint64_t)1 << change;
+    }
+}
+
+/* Every call judges the cells alike: 1 where the best question says so; else what is refused next, or nothing. None of them changes a cell. */
+static void judged_alike(void)
+{
+    const uint8_t packet[BATMAN_HEADER_SIZE] = {4};
+    struct batman_link_row rows[BATMAN_LINKS_MOST];
+    uint64_t best = batman_best(small, SMALL, 900).number, not_in_use = best ? best : BATMAN_NOT_IN_USE;
+    memcpy(small_kept, small, sizeof small);
+    expect("a changed table, best question", best > BATMAN_NOT_WELL_FORMED, 0);
+    expect("a changed table, list", batman_list(small, SMALL, 900, rows, BATMAN_LINKS_MOST).number, best);
+    expect("a changed table, receive", batman_receive(small, SMALL, packet, sizeof packet, 7, UINT64_MAX, 9, output, sizeof output).number, not_in_use);
+    expect("a changed table, own packet", batman_own_packet(small, SMALL, UINT64_MAX, 9, 50, 0, 0, NULL, 0, output, sizeof output).number, not_in_use);
+    expect("a changed table, sweep", batman_sweep(small, SMALL, 0).number, best ? best : small[TIME_AT] > 0 ? BATMAN_TIME_BEFORE : 0);
+    expect("a changed table is changed further", memcmp(small, small_kept, sizeof small) != 0, 0);
+}
+
+static void changed_tables(void)
+{
+    for (size_t i = 0; i < SMALL; i++)
+        for (unsigned change = 0; change < CHANGES; change++) {
+            uint64_t was = small[i];
+            small[i] = changed(was, change);
+            judged_alike();
+            small[i] = was;
+        }
+}
+
 static void verdicts(void)
 {
     struct batman_settings s = {4, 64, 1000, 640000, 2};
@@ -234,6 +275,7 @@ static void verdicts(void)
     expect("a refused message changed a cell", memcmp(small, small_kept, sizeof small) != 0, 0);
     listing();
     packets_refused();
+    changed_tables();
     struct batman_swept swept = batman_sweep(small, SMALL, 640010);
     expect("swept", swept.removed, 2);
 }

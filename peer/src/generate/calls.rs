@@ -7,6 +7,9 @@ use crate::cells::{capacity_of, cells_needed, record, RECORDS};
 use crate::play::{self, Lent};
 use crate::script::BUFFER_CELLS;
 
+/// The largest capacity of a table whose dump is short.
+const SMALL: u64 = 8;
+
 impl Generator<'_> {
     pub(super) fn make(&mut self, settings: &Settings) {
         let mut line = format!(
@@ -22,6 +25,20 @@ impl Generator<'_> {
             line += &format!(" {} {} {}", row.own, row.broadcast, row.first);
         }
         self.say(line);
+    }
+
+    /// A make in cells that hold anything, some of those behind them written too; then, of a
+    /// small table, all cells as they are left.
+    pub(super) fn make_over_anything(&mut self, settings: &Settings) {
+        for _ in 0..self.found.below(9) {
+            let index = self.found.below(cells_needed(settings.capacity) + 4);
+            let value = self.found.next();
+            self.say(format!("poke {index} {value}"));
+        }
+        self.make(settings);
+        if settings.capacity <= SMALL {
+            self.say("dump".to_string());
+        }
     }
 
     /// A sweep, often exactly at the purge timeout of a record or one more.
@@ -128,7 +145,7 @@ impl Generator<'_> {
 
     pub(super) fn dump(&mut self) {
         // A large table's dump is long: seldom.
-        if self.settings().capacity <= 8 || self.random.chance(60) {
+        if self.settings().capacity <= SMALL || self.random.chance(60) {
             self.say("dump".to_string());
         }
     }
