@@ -50,5 +50,4 @@ c-tests:
 
 # Speed beside independent versions in C, as a ratio; no test depends on it.
 bench: archive
-	@bench/wellformed/run
 	@bench/calls/run
