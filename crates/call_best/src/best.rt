@@ -1,12 +1,12 @@
 // The best question.
 use cells::Found;
+use rules::Asked;
+use rules::Route;
+use table_check::well_formed;
 use table_layout::WINDOW;
 use table_originators::find_record;
 use table_originators::record_at;
 use table_record::route_of;
-use rules::Asked;
-use rules::Route;
-use table_check::well_formed;
 use wire::refusals::NOT_WELL_FORMED;
 ghost use mathlib.Core.Path.{_≡_};
 ghost use Rattle.lists.specs.Keyed.{lookup};

@@ -1,5 +1,7 @@
 // The list call: the rows of an originator's links are looked up, then written to the caller's.
 use cells::Found;
+use rules::LinkRow;
+use table_check::well_formed;
 use table_layout::WINDOW;
 use table_originators::find_record;
 use table_originators::record_at;
@@ -8,8 +10,6 @@ use table_record::FIELDS;
 use table_record::INTERFACES;
 use table_record::LINK;
 use table_record::LINKS;
-use rules::LinkRow;
-use table_check::well_formed;
 use window::count;
 use wire::refusals::NOT_WELL_FORMED;
 use wire::refusals::SHORT_OUTPUT;

@@ -1,14 +1,14 @@
 // Making a table in the cells that are lent.
-use table_settings::own_differ;
-use table_settings::settings_ok;
+use cells_moves::clear;
+use cells_moves::write;
+use rules::Interface;
+use rules::Settings;
 use table_layout::CAPACITY_MOST;
 use table_layout::INTERFACE_MOST;
 use table_layout::RECORDS_FROM;
-use cells_moves::clear;
-use cells_moves::write;
 use table_record::WIDTH;
-use rules::Interface;
-use rules::Settings;
+use table_settings::own_differ;
+use table_settings::settings_ok;
 use wire::refusals::NOT_ALLOWED;
 ghost use mathlib.Core.Path.{_≡_};
 ghost use mathlib.Core.Bool.{cond};

@@ -1,4 +1,10 @@
 // The own packet: its octets, the table once it is sent, and the neighbour rows that are then too far behind.
+use call_own_packet_checks::next_number;
+use call_own_packet_checks::own_fault;
+use call_own_packet_checks::own_header;
+use packet_codec::output::write_packet;
+use rules::Written;
+use table_check::well_formed;
 use table_layout::INTERFACE;
 use table_layout::INTERFACES_FROM;
 use table_layout::LAST;
@@ -9,12 +15,6 @@ use table_layout::SENT;
 use table_layout::TIME;
 use table_layout::TIMEOUT;
 use table_neighbours::drop_old;
-use call_own_packet_checks::next_number;
-use call_own_packet_checks::own_fault;
-use call_own_packet_checks::own_header;
-use packet_codec::output::write_packet;
-use rules::Written;
-use table_check::well_formed;
 use wire::refusals::NOT_WELL_FORMED;
 ghost use mathlib.Core.Path.{_≡_};
 ghost use Prim.Native.Nat.{_+_, _≤_, _<_};

@@ -1,4 +1,6 @@
 // An own packet on a well-formed table: what is refused of it, its number and its message.
+use packet_check::written_fault;
+use rules::TTL_LEAST;
 use table_layout::FIRST;
 use table_layout::INTERFACE;
 use table_layout::INTERFACES_FROM;
@@ -8,11 +10,9 @@ use table_layout::SENT;
 use table_layout::TIME;
 use table_layout::USED;
 use table_layout::VERSION;
-use packet_check::written_fault;
 use table_record::ADDRESSES;
 use table_record::NUMBERS;
 use table_record::OCTETS;
-use rules::TTL_LEAST;
 use wire::Fault;
 use wire::HEADER_SIZE;
 use wire::Header;

@@ -19,7 +19,8 @@ use Rattle.wire.specs.Packet.{header, isU}
 use Rattle.wire.specs.Check.{numbered}
 use Rattle.rules.specs.Settings.{Config, neighbourMost, linkMost, isOwn, isBroadcast}
 use Rattle.rules.specs.Calls.{ReceiveArgs, receive}
-use Rattle.rules.specs.Rules.{Ogm, sequenceOf, OutcomeOf, branch, unless, receiveFault, linkBy, message, isEcho, isDuplicate, withTime, withRows, withRecords, refuse, verdict, storeCounted, counted, uncounted, decide, takeEcho, judge, step}
+use Rattle.rules.specs.declared.Ogm.{Ogm}
+use Rattle.rules.specs.Rules.{sequenceOf, OutcomeOf, branch, unless, receiveFault, linkBy, message, isEcho, isDuplicate, withTime, withRows, withRecords, refuse, verdict, storeCounted, counted, uncounted, decide, takeEcho, judge, step}
 use Rattle.rules.specs.Table.{TableRecord, TableState, settle, firstRecord, nextRecord, recordEcho, table}
 use Rattle.call_receive_arrival.specs.Receiving.{ownMessage, foreign, concluded}
 

@@ -1,20 +1,20 @@
 // A received message, and how its packet ends: refused, or with a verdict and the route of its originator.
+use call_best::best::no_route;
+use call_best::best::route_to;
 use count_in_record::is_best;
 use count_in_record::is_last_ttl;
-use table_layout::TIME;
-use table_layout::WINDOW;
-use table_originators::record_at;
 use packet_codec::output::flags_elsewhere;
 use packet_codec::output::flags_here;
 use packet_codec::output::pass_on;
-use table_record::route_of;
-use call_best::best::no_route;
-use call_best::best::route_to;
 use rules::Received;
 use rules::Route;
 use rules::TTL_LEAST;
 use rules::verdicts::KEPT;
 use rules::verdicts::PASSED_ON;
+use table_layout::TIME;
+use table_layout::WINDOW;
+use table_originators::record_at;
+use table_record::route_of;
 use wire::Fault;
 ghost use mathlib.Core.Path.{_≡_};
 ghost use mathlib.Core.Bool.{true, _&&_, _||_};

@@ -1,5 +1,7 @@
 // What is asked of an incoming packet before it is judged: its refusals, its message, and which addresses are this node's.
 use call_receive_arrival::Arrival;
+use packet_check::packet_fault;
+use packet_codec::message::read;
 use table_layout::OWN_0;
 use table_layout::OWN_1;
 use table_layout::OWN_2;
@@ -7,8 +9,6 @@ use table_layout::OWN_3;
 use table_layout::TIME;
 use table_layout::USED;
 use table_layout::VERSION;
-use packet_check::packet_fault;
-use packet_codec::message::read;
 use table_record::INTERFACES;
 use wire::Fault;
 use wire::refusal;

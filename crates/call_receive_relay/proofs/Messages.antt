@@ -18,7 +18,8 @@ use Rattle.rules.specs.declared.Received.{Received}
 use Rattle.rules.specs.declared.Route.{Route}
 use Rattle.rules.specs.Settings.{linkMost, ttlLeast}
 use Rattle.rules.specs.Calls.{receive, noRoute}
-use Rattle.rules.specs.Rules.{Ogm, message, isDuplicate, isPassedOn, routeOf, withTime, refuse, conclude, counted, storeCounted, decide}
+use Rattle.rules.specs.declared.Ogm.{Ogm}
+use Rattle.rules.specs.Rules.{message, isDuplicate, isPassedOn, routeOf, withTime, refuse, conclude, counted, storeCounted, decide}
 use Rattle.rules.specs.Table.{TableRecord, TableState, firstRecord, nextRecord, isMarked, table}
 use Rattle.table_record.specs.Record.{decodeRecord}
 use Rattle.table_layout.specs.Layout.{timeAt, capacityAt, recordsAt}

@@ -1,10 +1,12 @@
 // Messages of other nodes: counted or not, and passed on or not.
+use call_best::best::no_route;
 use call_receive_arrival::Arrival;
 use call_receive_arrival::conclude;
 use call_receive_arrival::conclude_by;
 use call_receive_arrival::refused;
 use cells::Found;
 use count_in_record::is_duplicate;
+use rules::Received;
 use table_layout::CAPACITY;
 use table_layout::NEIGHBOURS_FROM;
 use table_layout::RECORDS;
@@ -17,8 +19,6 @@ use table_originators::count_record;
 use table_originators::find_record;
 use table_originators::make_record;
 use table_originators::record_at;
-use call_best::best::no_route;
-use rules::Received;
 use wire::refusal;
 use wire::refusals::LINKS_FULL;
 use wire::refusals::ORIGINATORS_FULL;

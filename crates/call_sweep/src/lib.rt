@@ -1,13 +1,13 @@
 // The sweep: records whose time is more than the purge timeout ago are removed, in one pass that moves each kept record once.
+use cells_moves::clear;
+use cells_moves::move_down;
+use rules::Swept;
+use table_check::well_formed;
 use table_layout::PURGE;
 use table_layout::RECORDS;
 use table_layout::RECORDS_FROM;
 use table_layout::TIME;
-use cells_moves::clear;
-use cells_moves::move_down;
 use table_record::WIDTH;
-use rules::Swept;
-use table_check::well_formed;
 use wire::refusals::NOT_WELL_FORMED;
 use wire::refusals::TIME_BEFORE;
 ghost use mathlib.Core.Path.{_≡_};

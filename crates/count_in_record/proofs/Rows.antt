@@ -19,7 +19,8 @@ use Rattle.cells.proofs.Lent.{cells-from, tail-is}
 use Rattle.window.specs.Window.{numbers, distance, inside, advance, bit, marked, shift, mark}
 use Rattle.window.proofs.Numbers.{distance-self}
 use Rattle.rules.specs.Settings.{Config, linkMost, linkCells, recordHeadCells, recordCells}
-use Rattle.rules.specs.Rules.{Ogm, sequenceOf}
+use Rattle.rules.specs.declared.Ogm.{Ogm}
+use Rattle.rules.specs.Rules.{sequenceOf}
 use Rattle.rules.specs.Table.{TableRecord, marksAt, isHighest, firstRecord, nextRecord, isMarked}
 use Rattle.rules.proofs.Counting.{advance-inside}
 use Rattle.table_record.specs.Record.{addressAt, currentAt, timeAt, lastTtlAt, linksAt, bestAt, linksOf, encodeRecord, decodeRecord, Held}

@@ -6,7 +6,7 @@ use mathlib.Core.List.{List}
 use lib.Dec.{leb}
 use lib.ListN.{length}
 use Rattle.rules.specs.Settings.{Config, linkMost}
-use Rattle.rules.specs.Rules.{Ogm}
+use Rattle.rules.specs.declared.Ogm.{Ogm}
 use Rattle.rules.specs.Table.{nextRecord}
 use Rattle.table_record.specs.Record.{encodeRecord, decodeRecord}
 

@@ -1,8 +1,8 @@
 // Counting an originator message in a record's row of cells, and what is asked of a record when a message arrives.
 // `key` is the pair of neighbour address and interface that the message came by, and `w` the window size.
+use cells_moves::write;
 use count_links::push;
 use count_links::recount;
-use cells_moves::write;
 use table_record::ADDRESS;
 use table_record::BEST;
 use table_record::CURRENT;

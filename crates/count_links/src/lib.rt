@@ -1,9 +1,9 @@
 // The links of one originator while a message is counted: shifted, marked on this link, and kept or dropped.
 // This link is the one that the message came by, and `key` its pair of neighbour address and interface. `w` is the window size,
 // and `d` how far current moves up: 0 where the window stays, so that every link's marks are shifted by d and none is asked whether they move.
-use count_best_link::choose;
 use cells::Found;
 use cells::find;
+use count_best_link::choose;
 use table_record::LINK;
 use window::mark;
 use window::shift;

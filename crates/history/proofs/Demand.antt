@@ -18,7 +18,8 @@ use Rattle.window.proofs.Numbers.{distance-lt}
 use Rattle.window.proofs.Words.{tally-none, tally-same, tally-most}
 use Rattle.rules.specs.Settings.{Config, MakeArgs, configOf, makeAllowed}
 use Rattle.rules.specs.Calls.{Call}
-use Rattle.rules.specs.Rules.{Ogm, sequenceOf, notHigher, fresh}
+use Rattle.rules.specs.declared.Ogm.{Ogm}
+use Rattle.rules.specs.Rules.{sequenceOf, notHigher, fresh}
 use Rattle.rules.specs.Table.{TableRecord, TableState, marksAt, isMarked, table}
 use Rattle.rules.proofs.Config.{make-allowed}
 use Rattle.history.specs.Book.{Log, one, cons, latest, current, came, stays, logCount, logLinks, noneHigher, logBest, book}
@@ -108,21 +109,25 @@ module _ (κ : Config) where
   abbrev test : Log → ℕ → Bool
   test s k = eqb k (latest s .link) || notHigher κ (logCount κ s k) (logCount κ s (latest s .link))
 
+  zero-lowest : (y : ℕ) → notHigher κ 0 y ≡ true
+  unfolding notHigher
+  zero-lowest y = le-leb 0 y (omega arith)
+
   from-test : (s : Log) → noneHigher κ s (latest s .link) ≡ true → NoneHigher κ s
-  unfolding noneHigher notHigher
+  unfolding noneHigher
   from-test s h l n = go (elem l (logLinks s)) refl
     where
-      go : (t : Bool) → elem l (logLinks s) ≡ t → logCount κ s l ≤ logCount κ s (latest s .link)
-      go true e = leb-true (logCount κ s l) (logCount κ s (latest s .link)) (or-else (eqb l (latest s .link)) _ (all-elem (test s) (logLinks s) h l e) (ne-eqb l (latest s .link) n))
-      go false e = omega (arith, count-absent s l e)
+      go : (t : Bool) → elem l (logLinks s) ≡ t → notHigher κ (logCount κ s l) (logCount κ s (latest s .link)) ≡ true
+      go true e = or-else (eqb l (latest s .link)) _ (all-elem (test s) (logLinks s) h l e) (ne-eqb l (latest s .link) n)
+      go false e = ap (λ x. notHigher κ x (logCount κ s (latest s .link))) (count-absent s l e) ∙ zero-lowest (logCount κ s (latest s .link))
 
   to-test : (s : Log) → NoneHigher κ s → noneHigher κ s (latest s .link) ≡ true
-  unfolding noneHigher notHigher
+  unfolding noneHigher
   to-test s h = all-true (test s) (λ k. go k (eqb k (latest s .link)) refl) (logLinks s)
     where
-      go : (k : ℕ) (t : Bool) → eqb k (latest s .link) ≡ t → (t || leb (logCount κ s k) (logCount κ s (latest s .link))) ≡ true
+      go : (k : ℕ) (t : Bool) → eqb k (latest s .link) ≡ t → (t || notHigher κ (logCount κ s k) (logCount κ s (latest s .link))) ≡ true
       go k true e = refl
-      go k false e = le-leb (logCount κ s k) (logCount κ s (latest s .link)) (h k (eqb-false k (latest s .link) e))
+      go k false e = h k (eqb-false k (latest s .link) e)
 
   first-test : (m : Ogm) → noneHigher κ (one m) (m .link) ≡ true
   unfolding noneHigher logLinks

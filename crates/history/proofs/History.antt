@@ -34,6 +34,7 @@ agree κ h =
       lastTtl = λ s. refl;
       duplicate = λ s m. marked-stays κ s (m .link) (sequenceOf m) (sequence-lt m);
       best = λ s. refl;
+      isBest = λ s l. refl;
       links = links-same κ;
       noRows = λ ns. refl;
       hasRow = hasRow-same κ;

@@ -12,7 +12,8 @@ use Rattle.window.specs.Window.{numbers, distance, inside, advance}
 use Rattle.window.proofs.Numbers.{distance-back, distance-self, distance-higher, distance-lower, distance-turn}
 use Rattle.window.proofs.Words.{some-tally}
 use Rattle.rules.specs.Settings.{Config, allowed}
-use Rattle.rules.specs.Rules.{Ogm, sequenceOf}
+use Rattle.rules.specs.declared.Ogm.{Ogm}
+use Rattle.rules.specs.Rules.{sequenceOf}
 use Rattle.rules.proofs.Config.{window-low, window-high}
 use Rattle.rules.proofs.Counting.{sequence-lt, advance-lt, advance-inside}
 use Rattle.history.specs.Book.{Log, one, cons, latest, current, came, stays, logCount, logLinks}

@@ -2,10 +2,10 @@
 -- This file knows the rules, and nothing of windows, marks, distances or octets.
 use Prim.Native.Nat.{ℕ, _-_}
 use mathlib.Core.Path.{_≡_, refl, sym, ap, _∙_}
-use mathlib.Core.Bool.{Bool, true, not}
+use mathlib.Core.Bool.{Bool, true, false, not}
 use mathlib.Core.Option.{Option, none, some, Option·map}
 use mathlib.Core.List.{List, [], _∷_, _++_}
-use lib.Dec.{ltb}
+use lib.Dec.{ltb, eqb}
 use borrow.Author.Tests.{not-false}
 use Rattle.lists.specs.Lists.{maybe, keep}
 use Rattle.lists.specs.Keyed.{lookup, mapValues}
@@ -18,7 +18,8 @@ use Rattle.wire.specs.Packet.{header}
 use Rattle.wire.specs.Check.{firstOf}
 use Rattle.rules.specs.Settings.{Config, configOf, allowed, makeAllowed}
 use Rattle.rules.specs.Calls.{Call, make, receive, own, sweep, ask, list, ReceiveArgs, Reply}
-use Rattle.rules.specs.Rules.{Ogm, sequenceOf, Sends, sendOn, Words, StateOf, OutcomeOf, unless, receiveFaults, linkBy, message, isDuplicate, refuse, routeOf, linkRows, answerBest, fillRows, send, isExpired, purge, step}
+use Rattle.rules.specs.declared.Ogm.{Ogm}
+use Rattle.rules.specs.Rules.{sequenceOf, Sends, sendOn, Words, StateOf, OutcomeOf, unless, receiveFaults, linkBy, message, isDuplicate, refuse, routeOf, linkRows, answerBest, fillRows, send, isExpired, purge, step}
 use Rattle.rules.specs.Refusals.{Questions, found, questions, countedRecord, roomFacts, stateThen, recordThen, wouldPass, taken, facts, outcome}
 use Rattle.rules.proofs.Faults.{none-at, not-given}
 use Rattle.rules.proofs.Config.{make-allowed}
@@ -35,6 +36,7 @@ pub record Agree (B T : Words) (f : Config → B .Record → T .Record) (g : Con
   pub lastTtl : (a : B .Record) → T .lastTtl (f κ a) ≡ B .lastTtl a
   pub duplicate : (a : B .Record) (m : Ogm) → T .duplicate κ (f κ a) (m .link) (sequenceOf m) ≡ B .duplicate κ a (m .link) (sequenceOf m)
   pub best : (a : B .Record) → T .best κ (f κ a) ≡ B .best κ a
+  pub isBest : (a : B .Record) (l : ℕ) → T .isBest κ (f κ a) l ≡ B .isBest κ a l
   pub links : (a : B .Record) → T .links κ (f κ a) ≡ B .links κ a
   pub noRows : (ns : Sends) → T .noRows ≡ g κ ns (B .noRows)
   pub hasRow : (ns : Sends) (rs : B .Rows) (l : ℕ) → T .hasRow κ (g κ ns rs) l ≡ B .hasRow κ rs l
@@ -71,7 +73,7 @@ module _ (B T : Words) (f : Config → B .Record → T .Record) (g : Config → 
 
   rows-same : (x : Option (B .Record)) → linkRows T κ (Option·map (f κ) x) ≡ linkRows B κ x
   rows-same none = refl
-  rows-same (some a) = rw (A .links a, A .best a)
+  rows-same (some a) = rw (A .links a) (simp (A .isBest))
 
   -- a test of records keeps the same ones
   kept-same : (p : T .Record → Bool) (q : B .Record → Bool) → ((a : B .Record) → p (f κ a) ≡ q a)
@@ -95,8 +97,11 @@ module _ (B T : Words) (f : Config → B .Record → T .Record) (g : Config → 
         go none = refl
         go (some a) = A .duplicate a (message r h)
 
+    ttl-same : maybe (found T s′ r h) false (λ a. eqb (h .ttl) (T .lastTtl a)) ≡ maybe (found B s r h) false (λ a. eqb (h .ttl) (B .lastTtl a))
+    ttl-same = rw found-same (simp (maybe-map, A .lastTtl))
+
     questions-same : questions T s′ r h ≡ questions B s r h
-    questions-same = rw (A .hasRow (s .sends) (s .rows) (linkBy r), duplicate-same)
+    questions-same = rw (A .hasRow (s .sends) (s .rows) (linkBy r), duplicate-same, ttl-same)
 
     counted-same : countedRecord T s′ r h ≡ f κ (countedRecord B s r h)
     counted-same = ap (λ (x : Option (T .Record)). maybe x (T .first κ (message r h)) (λ a. T .next κ (message r h) a)) found-same ∙ go (found B s r h)
@@ -123,7 +128,7 @@ module _ (B T : Words) (f : Config → B .Record → T .Record) (g : Config → 
     then-same q = ap (λ (t : StateOf T). lookup (h .originator) (t .records)) (state-same q) ∙ lookup-mapValues (f κ) (h .originator) (stateThen B s r h q .records)
 
     pass-same : (q : Questions) → wouldPass T s′ r h q ≡ wouldPass B s r h q
-    pass-same q = rw (then-same q, found-same) (simp (maybe-map, A .best, A .lastTtl))
+    pass-same q = rw (then-same q) (simp (maybe-map, A .isBest))
 
     taken-same : (q : Questions) → taken T s′ r h q ≡ imageOf B T f g (taken B s r h q)
     taken-same q = rw (pass-same q, then-same q, route-same (recordThen B s r h q), state-same q)

@@ -17,7 +17,8 @@ use Rattle.window.proofs.Numbers.{distance-back, distance-self, distance-turn}
 use Rattle.window.proofs.Words.{word-same, word-none, tally-none, none-tally}
 use Rattle.window.proofs.Window.{laws, word-laws}
 use Rattle.rules.specs.Settings.{Config, allowed}
-use Rattle.rules.specs.Rules.{Ogm, sequenceOf, notHigher}
+use Rattle.rules.specs.declared.Ogm.{Ogm}
+use Rattle.rules.specs.Rules.{sequenceOf, notHigher}
 use Rattle.rules.specs.Table.{TableRecord, marksAt, isHighest, settle, firstRecord, nextRecord, isMarked}
 use Rattle.rules.proofs.Config.{window-low, window-high}
 use Rattle.rules.proofs.Counting.{sequence-lt}

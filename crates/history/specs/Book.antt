@@ -9,7 +9,8 @@ use Rattle.lists.specs.Keyed.{hasKey, put, putKey, tabulate}
 use Rattle.window.specs.Window.{distance, inside, tally}
 use Rattle.rules.specs.Settings.{Config}
 use Rattle.rules.specs.Calls.{interfaceOf}
-use Rattle.rules.specs.Rules.{Ogm, sequenceOf, notHigher, Words, State}
+use Rattle.rules.specs.declared.Ogm.{Ogm}
+use Rattle.rules.specs.Rules.{sequenceOf, notHigher, Words, State}
 
 -- ---- an originator's counted OGMs
 
@@ -87,6 +88,7 @@ book =
       lastTtl = λ s. latest s .ttl;
       duplicate = stays;
       best = logBest;
+      isBest = λ κ s l. eqb (logBest κ s) l;
       links = λ κ s. tabulate (logCount κ s) (heldLinks κ s);
       Rows = Echoes;
       noRows = [];

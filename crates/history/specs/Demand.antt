@@ -11,7 +11,8 @@ use Rattle.lists.specs.Keyed.{lookup}
 use Rattle.window.specs.Window.{numbers, distance, count, tally}
 use Rattle.rules.specs.Settings.{Config, MakeArgs, configOf}
 use Rattle.rules.specs.Calls.{Call}
-use Rattle.rules.specs.Rules.{Ogm, sequenceOf, fresh}
+use Rattle.rules.specs.declared.Ogm.{Ogm}
+use Rattle.rules.specs.Rules.{sequenceOf, notHigher, fresh}
 use Rattle.rules.specs.Table.{TableRecord, TableState, marksAt, isMarked, table}
 use Rattle.history.specs.Book.{Log, cons, latest, current, logCount, book, BookState}
 use Rattle.history.specs.History.{after, replies}
@@ -37,7 +38,7 @@ pub record Stayed (κ : Config) (s : Log) (l n : ℕ) : Type 0 where
 
 -- after the latest count of t no other link stood higher than its link
 abbrev pub NoneHigher : Config → Log → Type 0
-NoneHigher κ t = (l : ℕ) → (l ≡ latest t .link → ⊥) → logCount κ t l ≤ logCount κ t (latest t .link)
+NoneHigher κ t = (l : ℕ) → (l ≡ latest t .link → ⊥) → notHigher κ (logCount κ t l) (logCount κ t (latest t .link)) ≡ true
 
 -- b is the link of the latest message after whose count no other link stood higher
 pub record Best (κ : Config) (s : Log) (b : ℕ) : Type 0 where

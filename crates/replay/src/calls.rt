@@ -1,4 +1,5 @@
 // The calls of a script: each is made on the lent cells, and its answer is put behind the `used` octets of a text.
+use batman::Interfaces;
 use script_answers::put_asked;
 use script_answers::put_cells;
 use script_answers::put_one;
@@ -6,7 +7,6 @@ use script_answers::put_received;
 use script_answers::put_rows;
 use script_answers::put_two;
 use script_answers::put_written;
-use batman::Interfaces;
 use script_lines::names::Call;
 use script_lines::requests::OUTPUT_MOST;
 use script_lines::tables::rows_of;

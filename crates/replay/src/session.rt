@@ -1,7 +1,7 @@
 // Lines: put together from the pieces that are read, and each answered.
 use crate::calls::make_call;
-use script_answers::put_one;
 use libc::STDOUT_FILENO;
+use script_answers::put_one;
 use script_lines::gather;
 use script_lines::names::Call;
 use script_lines::requests::PACKET_MOST;

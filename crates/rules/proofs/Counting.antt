@@ -20,7 +20,8 @@ use Rattle.window.proofs.Numbers.{distance-self}
 use Rattle.window.proofs.Window.{laws}
 use Rattle.rules.specs.Settings.{Config, allowed, isAddress, isInUse}
 use Rattle.rules.specs.Calls.{neighbourOf, interfaceOf}
-use Rattle.rules.specs.Rules.{Ogm, sequenceOf}
+use Rattle.rules.specs.declared.Ogm.{Ogm}
+use Rattle.rules.specs.Rules.{sequenceOf}
 use Rattle.rules.specs.Table.{TableRecord, marksAt, isHighest, settle, markOn, firstRecord, nextRecord}
 use Rattle.rules.specs.WellFormed.{linkTests}
 use Rattle.rules.proofs.Config.{window-low}

@@ -19,8 +19,8 @@ use Rattle.wire.specs.Check.{given, firstOf}
 use Rattle.wire.specs.PassOn.{flagsHere, flagsElsewhere, passedOn}
 use Rattle.wire.proofs.Laws.{reads-back}
 use Rattle.rules.specs.declared.Route.{Route}
-use Rattle.rules.specs.Settings.{neighbourMost, linkMost, ttlLeast, within, makeAllowed, isInUse}
-use Rattle.rules.specs.Calls.{received, ReceiveArgs, Call, make, receive, own, sweep, ask, list, numberOf, Reply, refusal}
+use Rattle.rules.specs.Settings.{neighbourMost, linkMost, ttlLeast, makeAllowed, isInUse}
+use Rattle.rules.specs.Calls.{received, ReceiveArgs, Call, make, receive, own, sweep, ask, list, numberOf, isRefusal, isRuleRefusal, receivedAs, Reply, answeredWriting, refusal}
 use Rattle.rules.specs.Rules.{Words, StateOf, OutcomeOf, branch, unless, receiveFaults, receiveFault, ownFault, linkBy, singleHop, message, conclude, ownHeader, withTime, withRecords, routeOf, linkRows, isPassedOn, refuse, answerBest, fillRows, verdict, storeCounted, counted, uncounted, decide, takeEcho, judge, send, purge, step}
 use Rattle.rules.specs.Refusals.{firstThat, Questions, found, questions, countedRecord, wouldEcho, wouldCount, roomFacts, verdicts, taken, facts, outcome, Exactly}
 use Rattle.rules.proofs.Faults.{first-append, first-single, unless-then, numbered, first-numbered, given-numbered, packet-numbered, written-numbered}
@@ -35,62 +35,53 @@ either false p q = q refl
 
 module _ (W : Words) (s : StateOf W) (r : ReceiveArgs) (h : Header) where
   -- what the page says of it, by the answers to its questions
-  abbrev page : (a b o e u k d : Bool) → OutcomeOf W
-  page a b o e u k d =
-      let q : Questions = record { ownSender = a; broadcastSender = b; ownOriginator = o; echo = e; unidirectional = u; bidirectional = k; duplicate = d } in
+  abbrev page : (a b o e u k d f : Bool) → OutcomeOf W
+  page a b o e u k d f =
+      let q : Questions = record { ownSender = a; broadcastSender = b; ownOriginator = o; echo = e; unidirectional = u; bidirectional = k; duplicate = d; fresh = f } in
       unless (firstOf (roomFacts W s r h q)) (refuse W (receive r) s) (taken W s r h q)
 
   -- of a packet that comes so far that counting and passing on are asked
-  abbrev last : (k d : Bool) → OutcomeOf W
-  last k d = page false false false false false k d
+  abbrev last : (k d f : Bool) → OutcomeOf W
+  last k d f = page false false false false false k d f
 
   -- verdicts 25 and 26 by one number
   abbrev replied : (k t : Bool) → Route → Reply
   replied k t x =
-      record {
-        answer = received (record { number = cond t 26 25; place = 0; flags = cond (eqb (cond t 26 25) 26) (flagsElsewhere (h .flags)) 0; route = x });
-        output = cond (eqb (cond t 26 25) 26) (writtenTo (passedOn (flagsHere (singleHop r h) k (h .flags)) (r .packet)) (r .output)) (r .output);
-        rows = [];
-      }
+      answeredWriting (received (receivedAs (cond t 26 25) 0 (cond (eqb (cond t 26 25) 26) (flagsElsewhere (h .flags)) 0) x))
+      (cond (eqb (cond t 26 25) 26) (writtenTo (passedOn (flagsHere (singleHop r h) k (h .flags)) (r .packet)) (r .output)) (r .output))
 
   concluded : (k t : Bool) (x : Route) → conclude r h k t x ≡ replied k t x
   unfolding conclude
   concluded k true x = refl
   concluded k false x = refl
 
-  -- *passed on*, with best and last TTL asked apart
-  passes : (k d : Bool) (x : Option (W .Record))
-      → isPassedOn W (s .config) r h k d x ≡ (leb ttlLeast (h .ttl) && (singleHop r h || (k && (maybe x false (λ a. eqb (W .best (s .config) a) (linkBy r)) && (not d || maybe x false (λ a. eqb (h .ttl) (W .lastTtl a)))))))
-  passes k d none = refl
-  passes k d (some a) = refl
-
   -- the record a takes its place, unless it has too many links
-  stored : (a : W .Record)
-      → storeCounted W s r h a ≡ unless (firstOf (given (ltb linkMost (length (W .links (s .config) a))) 11 ∷ [])) (refuse W (receive r) s) (record { reply = replied true (isPassedOn W (s .config) r h true false (some a)) (routeOf W (s .config) (some a)); state = withRecords W s (r .time) (put (h .originator) a (s .records)) })
+  stored : (f : Bool) (a : W .Record)
+      → storeCounted W s r h f a ≡ unless (firstOf (given (ltb linkMost (length (W .links (s .config) a))) 11 ∷ [])) (refuse W (receive r) s) (record { reply = replied true (isPassedOn W (s .config) r h true f (some a)) (routeOf W (s .config) (some a)); state = withRecords W s (r .time) (put (h .originator) a (s .records)) })
   unfolding storeCounted
-  stored a = rw (first-single, concluded)
+  stored f a = rw (first-single, concluded)
 
-  counted-flat : (x : Option (W .Record)) → found W s r h ≡ x → counted W s r h x ≡ last true false
+  counted-flat : (f : Bool) (x : Option (W .Record)) → found W s r h ≡ x → counted W s r h f x ≡ last true false f
   unfolding counted
-  counted-flat none e =
+  counted-flat f none e =
       rw (lookup-put (h .originator) (countedRecord W s r h) (s .records), e)
-      (ap (unless (given (leb (s .config .settings .capacity) (length (s .records))) 10) (refuse W (receive r) s)) (stored (W .first (s .config) (message r h))) ∙ unless-then _ _ _ _)
-  counted-flat (some a) e = rw (lookup-put (h .originator) (countedRecord W s r h) (s .records), e) (stored (W .next (s .config) (message r h) a))
+      (ap (unless (given (leb (s .config .settings .capacity) (length (s .records))) 10) (refuse W (receive r) s)) (stored f (W .first (s .config) (message r h))) ∙ unless-then _ _ _ _)
+  counted-flat f (some a) e = rw (lookup-put (h .originator) (countedRecord W s r h) (s .records), e) (stored f (W .next (s .config) (message r h) a))
 
-  uncounted-flat : (k d : Bool)
-      → uncounted W s r h k d (found W s r h) ≡ record { reply = replied k (isPassedOn W (s .config) r h k d (found W s r h)) (routeOf W (s .config) (found W s r h)); state = withTime W s (r .time) }
+  uncounted-flat : (k f : Bool)
+      → uncounted W s r h k f (found W s r h) ≡ record { reply = replied k (isPassedOn W (s .config) r h k f (found W s r h)) (routeOf W (s .config) (found W s r h)); state = withTime W s (r .time) }
   unfolding uncounted
-  uncounted-flat k d = rw concluded
+  uncounted-flat k f = rw concluded
 
-  decide-flat : (k d : Bool) → branch (k && not d) (counted W s r h (found W s r h)) (uncounted W s r h k d (found W s r h)) ≡ last k d
+  decide-flat : (k d f : Bool) → branch (k && not d) (counted W s r h f (found W s r h)) (uncounted W s r h k f (found W s r h)) ≡ last k d f
   unfolding branch unless
-  decide-flat true true = uncounted-flat true true ∙ rw (passes true true (found W s r h))
-  decide-flat true false = counted-flat (found W s r h) refl
-  decide-flat false d = uncounted-flat false d ∙ rw (passes false d (found W s r h))
+  decide-flat true true f = uncounted-flat true f
+  decide-flat true false f = counted-flat f (found W s r h) refl
+  decide-flat false d f = uncounted-flat false f
 
-  echo-flat : (u d : Bool) → takeEcho W s r h ≡ page false false true true u (W .hasRow (s .config) (s .rows) (linkBy r)) d
+  echo-flat : (u d f : Bool) → takeEcho W s r h ≡ page false false true true u (W .hasRow (s .config) (s .rows) (linkBy r)) d f
   unfolding takeEcho verdict
-  echo-flat u d =
+  echo-flat u d f =
       rw (first-single (given (not (W .hasRow (s .config) (s .rows) (linkBy r)) && leb neighbourMost (W .rowsHeld (s .config) (s .rows))) 9))
 
   judge-flat : judge W s r h ≡ unless (firstOf (roomFacts W s r h (questions W s r h))) (refuse W (receive r) s) (taken W s r h (questions W s r h))
@@ -100,8 +91,8 @@ module _ (W : Words) (s : StateOf W) (r : ReceiveArgs) (h : Header) where
       either (q .ownSender) (λ a. rw a)
       (λ a. either (q .broadcastSender) (λ b. rw (a, b))
       (λ b. either (q .ownOriginator)
-      (λ o. either (q .echo) (λ e. rw (a, b, o, e) (echo-flat (q .unidirectional) (q .duplicate))) (λ e. rw (a, b, o, e)))
-      (λ o. either (q .unidirectional) (λ u. rw (a, b, o, u)) (λ u. rw (a, b, o, u) (decide-flat (q .bidirectional) (q .duplicate))))))
+      (λ o. either (q .echo) (λ e. rw (a, b, o, e) (echo-flat (q .unidirectional) (q .duplicate) (q .fresh))) (λ e. rw (a, b, o, e)))
+      (λ o. either (q .unidirectional) (λ u. rw (a, b, o, u)) (λ u. rw (a, b, o, u) (decide-flat (q .bidirectional) (q .duplicate) (q .fresh))))))
 
 -- ---- every call
 
@@ -157,12 +148,12 @@ exactly W cells s c =
       noRefusal = number c;
     }
   where
-    number : (c : Call) → within 1 13 (numberOf (outcome W cells s c .reply .answer)) ≡ false
+    number : (c : Call) → isRefusal (numberOf (outcome W cells s c .reply .answer)) ≡ false
     number (make a) = refl
     number (receive r) =
         let h = header (r .packet) in
         let vs = verdicts W s r h (questions W s r h) in
-        not-true (within 1 13 (firstThat vs 25)) (first-passes (λ n. not (within 1 13 n)) vs 25 refl refl)
+        not-true (isRefusal (firstThat vs 25)) (first-passes (λ n. not (isRefusal n)) vs 25 refl refl)
     number (own a) = refl
     number (sweep t) = refl
     number (ask o) = refl
@@ -185,8 +176,8 @@ never-one W cells s c = go (firstOf (facts W cells s c)) refl
     x = exactly W cells s c
 
     go : (o : Option Fault) → firstOf (facts W cells s c) ≡ o → eqb (numberOf (step W cells s c .reply .answer)) 1 ≡ false
-    go none e = ap (λ (o : OutcomeOf W). eqb (numberOf (o .reply .answer)) 1) (x .accepted e) ∙ ne-eqb (numberOf (outcome W cells s c .reply .answer)) 1 (λ d. false≢true (sym (x .noRefusal) ∙ ap (within 1 13) d))
-    go (some f) e = ap (λ (o : OutcomeOf W). eqb (numberOf (o .reply .answer)) 1) (x .refused f e) ∙ ap (λ n. eqb n 1) (refusal-number c f) ∙ ne-eqb (f .number) 1 (λ d. true≢false (sym (x .numbers f e) ∙ ap (within 2 13) d))
+    go none e = ap (λ (o : OutcomeOf W). eqb (numberOf (o .reply .answer)) 1) (x .accepted e) ∙ ne-eqb (numberOf (outcome W cells s c .reply .answer)) 1 (λ d. false≢true (sym (x .noRefusal) ∙ ap isRefusal d))
+    go (some f) e = ap (λ (o : OutcomeOf W). eqb (numberOf (o .reply .answer)) 1) (x .refused f e) ∙ ap (λ n. eqb n 1) (refusal-number c f) ∙ ne-eqb (f .number) 1 (λ d. true≢false (sym (x .numbers f e) ∙ ap isRuleRefusal d))
 
 -- so what holds before a call, and of what it leaves where it is not refused, holds after it
 pub step-keeps : (W : Words) (cells : ℕ) (P : StateOf W → Type 0) (s : StateOf W) (c : Call) → P s

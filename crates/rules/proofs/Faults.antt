@@ -14,7 +14,7 @@ use Rattle.wire.specs.declared.Fault.{Fault}
 use Rattle.wire.specs.Layout.{headerSize, entrySize, packetMost, versionAt}
 use Rattle.wire.specs.Packet.{octet, hna}
 use Rattle.wire.specs.Check.{given, firstOf, faultOf, sizeFault, firstBadMask, hnaFaults, hnaFault, packetFaults, packetFault, writtenFault}
-use Rattle.rules.specs.Settings.{within}
+use Rattle.rules.specs.Calls.{isRuleRefusal}
 use Rattle.rules.specs.Rules.{unless}
 
 -- no fault in a list: none at each place
@@ -47,14 +47,14 @@ unless-then (some f) y refuse o = refl
 -- ---- the numbers of refusals are 2 to 13
 
 abbrev pub numbered : Option Fault → Bool
-numbered x = maybe x true (λ f. within 2 13 (f .number))
+numbered x = maybe x true (λ f. isRuleRefusal (f .number))
 
 pub first-numbered : (fs : List (Option Fault)) → all numbered fs ≡ true → numbered (firstOf fs) ≡ true
 first-numbered [] h = refl
 first-numbered (none ∷ fs) h = first-numbered fs h
-first-numbered (some f ∷ fs) h = and-left (within 2 13 (f .number)) (all numbered fs) h
+first-numbered (some f ∷ fs) h = and-left (isRuleRefusal (f .number)) (all numbered fs) h
 
-pub given-numbered : (t : Bool) (n : ℕ) → within 2 13 n ≡ true → numbered (given t n) ≡ true
+pub given-numbered : (t : Bool) (n : ℕ) → isRuleRefusal n ≡ true → numbered (given t n) ≡ true
 given-numbered true n h = h
 given-numbered false n h = refl
 

@@ -16,7 +16,7 @@ use Rattle.wire.specs.Packet.{header}
 use Rattle.wire.specs.Check.{firstOf}
 use Rattle.wire.specs.PassOn.{flagsHere, flagsElsewhere, passedOn}
 use Rattle.wire.proofs.Laws.{reads-back, copy, flags-octet}
-use Rattle.rules.specs.Calls.{written, received, ReceiveArgs, OwnArgs, receive, own}
+use Rattle.rules.specs.Calls.{written, received, receivedAs, writtenAs, ReceiveArgs, OwnArgs, receive, own}
 use Rattle.rules.specs.Rules.{Words, StateOf, ownHeader, ownPacket, singleHop, routeOf, send, step}
 use Rattle.rules.specs.Refusals.{Questions, questions, countedRecord, wouldCount, recordThen, verdictThen, taken, facts, outcome}
 use Rattle.rules.specs.Promises.{OwnWritten, PassedOn, ReceiveWritten}
@@ -34,7 +34,7 @@ module _ (W : Words) (cells : ℕ) (s : StateOf W) where
           packet = ownPacket (s .config) (s .sends) a;
           size = b .size;
           starts = refl;
-          says = ap (λ (g : Header). written (record { number = 0; place = 0; length = length (ownPacket (s .config) (s .sends) a); sequence = g .sequence })) (sym (b .fields));
+          says = ap (λ (g : Header). written (writtenAs 0 0 (length (ownPacket (s .config) (s .sends) a)) (g .sequence))) (sym (b .fields));
           fields = b .fields;
           octets = b .octets;
           check = b .check ∙ none-at (facts W cells s (own a)) n 3;
@@ -65,7 +65,7 @@ module _ (W : Words) (cells : ℕ) (s : StateOf W) where
           rest = b .here-rest;
           elsewhere = flagsElsewhere (h .flags);
           route = routeOf W (s .config) (recordThen W s r h q);
-          says = ap (λ v. received (record { number = v; place = 0; flags = cond (eqb v 26) (flagsElsewhere (h .flags)) 0; route = routeOf W (s .config) (recordThen W s r h q) })) e;
+          says = ap (λ v. received (receivedAs v 0 (cond (eqb v 26) (flagsElsewhere (h .flags)) 0) (routeOf W (s .config) (recordThen W s r h q)))) e;
           elsewhere-d = b .elsewhere-d;
           elsewhere-u = b .elsewhere-u;
           elsewhere-rest = b .elsewhere-rest;

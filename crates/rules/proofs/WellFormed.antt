@@ -23,7 +23,8 @@ use Rattle.wire.specs.Packet.{octet, read4, header}
 use Rattle.wire.specs.Check.{firstOf}
 use Rattle.rules.specs.Settings.{Config, configOf, allowed, makeAllowed, neighbourMost, linkMost, interfaceMost, isOctet, isAddress, isNumber, isTime, isInUse, isOwn}
 use Rattle.rules.specs.Calls.{neighbourOf, interfaceOf, ReceiveArgs, OwnArgs, Call, make, receive, own, sweep, ask, list}
-use Rattle.rules.specs.Rules.{Ogm, sequenceOf, Sends, hasSent, lastSent, nextNumber, sendOn, linkBy, message, echoTests, ownPacket, fresh, isExpired, answerBest, fillRows, send, purge, step}
+use Rattle.rules.specs.declared.Ogm.{Ogm}
+use Rattle.rules.specs.Rules.{sequenceOf, Sends, hasSent, lastSent, nextNumber, sendOn, linkBy, message, echoTests, ownPacket, fresh, isExpired, answerBest, fillRows, send, purge, step}
 use Rattle.rules.specs.Table.{TableRecord, TableState, firstRecord, nextRecord, recordEcho, rowDistance, dropOld, table}
 use Rattle.rules.specs.Refusals.{Questions, found, questions, countedRecord, foreign, wouldEcho, wouldCount, facts, outcome}
 use Rattle.rules.specs.WellFormed.{sendTests, rowTests, recordTests, tableTests, wellFormed, receiveTypes, typed}

@@ -1,5 +1,6 @@
 -- The calls with all their arguments, what they lend among them, and the answers with all their fields.
 use Prim.Native.Nat.{ℕ, _+_, _*_, _/_, _%_}
+use mathlib.Core.Bool.{Bool}
 use mathlib.Core.List.{List, []}
 use Rattle.wire.specs.declared.Fault.{Fault}
 use Rattle.rules.specs.declared.Route.{Route}
@@ -9,7 +10,7 @@ use Rattle.rules.specs.declared.Written.{Written}
 use Rattle.rules.specs.declared.Swept.{Swept}
 use Rattle.rules.specs.declared.Asked.{Asked}
 use Rattle.rules.specs.declared.Listed.{Listed}
-use Rattle.rules.specs.Settings.{MakeArgs, interfaceMost}
+use Rattle.rules.specs.Settings.{MakeArgs, interfaceMost, within}
 
 -- ---- links
 
@@ -72,9 +73,31 @@ numberOf (swept a) = a .number
 numberOf (asked a) = a .number
 numberOf (listed a) = a .number
 
+-- a number that refuses; 1 is asked of the cells, so the rules give the others
+abbrev pub refusalMost : ℕ
+refusalMost = 13
+
+abbrev pub isRefusal : ℕ → Bool
+isRefusal n = within 1 refusalMost n
+
+abbrev pub isRuleRefusal : ℕ → Bool
+isRuleRefusal n = within 2 refusalMost n
+
 -- "no route"
 abbrev pub noRoute : Route
 noRoute = record { neighbour = 0; interface = 0; count = 0; window = 0 }
+
+-- ---- an answer with several fields is put together here alone, so that one field more is one line
+
+-- a received packet's: a refusal or verdict, the place that 8 carries, the flags octet for the other interfaces, the route
+abbrev pub receivedAs : (number place flags : ℕ) → Route → Received
+receivedAs n p f x = record { number = n; place = p; flags = f; route = x }
+
+-- an own packet's: 0 or a refusal, the place that 8 carries, the packet's length and number
+abbrev pub writtenAs : (number place length sequence : ℕ) → Written
+writtenAs n p l m = record { number = n; place = p; length = l; sequence = m }
+
+-- ---- replies
 
 -- what a call gives back: its answer, and what it was lent as it leaves it ([] where it is lent none)
 pub record Reply : Type 0 where
@@ -86,13 +109,19 @@ pub record Reply : Type 0 where
 abbrev pub answered : Answer → Reply
 answered a = record { answer = a; output = []; rows = [] }
 
+-- of a call that is lent an output, with the output as it leaves it
+abbrev pub answeredWriting : Answer → (output : List ℕ) → Reply
+answeredWriting a o = record { answer = a; output = o; rows = [] }
+
+-- of a call that is lent rows, with the rows as it leaves them
+abbrev pub answeredFilling : Answer → (rows : List LinkRow) → Reply
+answeredFilling a rs = record { answer = a; output = []; rows = rs }
+
 -- a refused call returns its number, every other answer field 0 but the place for 8, and writes nothing
 unfoldable pub refusal : Call → Fault → Reply
 refusal (make a) f = answered (made (f .number))
-refusal (receive a) f =
-    record { answer = received (record { number = f .number; place = f .place; flags = 0; route = noRoute }); output = a .output; rows = [] }
-refusal (own a) f =
-    record { answer = written (record { number = f .number; place = f .place; length = 0; sequence = 0 }); output = a .output; rows = [] }
+refusal (receive a) f = answeredWriting (received (receivedAs (f .number) (f .place) 0 noRoute)) (a .output)
+refusal (own a) f = answeredWriting (written (writtenAs (f .number) (f .place) 0 0)) (a .output)
 refusal (sweep t) f = answered (swept (record { number = f .number; removed = 0 }))
 refusal (ask o) f = answered (asked (record { number = f .number; route = noRoute }))
-refusal (list o rs) f = record { answer = listed (record { number = f .number; filled = 0 }); output = []; rows = rs }
+refusal (list o rs) f = answeredFilling (listed (record { number = f .number; filled = 0 })) rs

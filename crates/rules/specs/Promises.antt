@@ -13,7 +13,7 @@ use Rattle.wire.specs.Check.{packetFault}
 use Rattle.wire.specs.PassOn.{passedOn}
 use Rattle.wire.specs.Laws.{Copy}
 use Rattle.rules.specs.declared.Route.{Route}
-use Rattle.rules.specs.Calls.{received, written, ReceiveArgs, OwnArgs, numberOf}
+use Rattle.rules.specs.Calls.{received, written, receivedAs, writtenAs, ReceiveArgs, OwnArgs, numberOf}
 use Rattle.rules.specs.Rules.{Words, StateOf, OutcomeOf, linkBy, singleHop, ownHeader}
 
 module _ (W : Words) (s : StateOf W) where
@@ -22,7 +22,7 @@ module _ (W : Words) (s : StateOf W) where
     pub packet : List ℕ
     pub size : length packet ≡ headerSize + length (a .hna)
     pub starts : o .reply .output ≡ packet ++ drop (length packet) (a .output)
-    pub says : o .reply .answer ≡ written (record { number = 0; place = 0; length = length packet; sequence = header packet .sequence })
+    pub says : o .reply .answer ≡ written (writtenAs 0 0 (length packet) (header packet .sequence))
     -- read by the layout it gives back the fields given, and it passes the packet check
     pub fields : header packet ≡ ownHeader (s .config) (s .sends) a
     pub octets : hna packet ≡ a .hna
@@ -39,7 +39,7 @@ module _ (W : Words) (s : StateOf W) where
     -- the answer carries the flags octet for the other interfaces
     pub elsewhere : ℕ
     pub route : Route
-    pub says : o .reply .answer ≡ received (record { number = 26; place = 0; flags = elsewhere; route = route })
+    pub says : o .reply .answer ≡ received (receivedAs 26 0 elsewhere route)
     pub elsewhere-d : isD elsewhere ≡ false
     pub elsewhere-u : isU elsewhere ≡ false
     pub elsewhere-rest : unnamed elsewhere ≡ unnamed (header (r .packet) .flags)

@@ -15,9 +15,9 @@ use Rattle.wire.specs.Layout.{headerSize}
 use Rattle.wire.specs.Packet.{header, isU}
 use Rattle.wire.specs.Check.{given, firstOf, packetFault, writtenFault}
 use Rattle.wire.specs.PassOn.{flagsHere, flagsElsewhere, passedOn}
-use Rattle.rules.specs.Settings.{neighbourMost, linkMost, ttlLeast, within, makeAllowed, isInUse, isOwn, isBroadcast}
-use Rattle.rules.specs.Calls.{received, ReceiveArgs, Call, make, receive, own, sweep, ask, list, numberOf}
-use Rattle.rules.specs.Rules.{Words, StateOf, OutcomeOf, linkBy, singleHop, message, isEcho, isDuplicate, ownPacket, routeOf, linkRows, refuse, begin, send, purge, answerBest, fillRows, step}
+use Rattle.rules.specs.Settings.{neighbourMost, linkMost, ttlLeast, makeAllowed, isInUse, isOwn, isBroadcast}
+use Rattle.rules.specs.Calls.{received, ReceiveArgs, Call, make, receive, own, sweep, ask, list, numberOf, isRefusal, isRuleRefusal, receivedAs, answeredWriting}
+use Rattle.rules.specs.Rules.{Words, StateOf, OutcomeOf, linkBy, singleHop, message, isEcho, isDuplicate, isFresh, isBestBy, ownPacket, routeOf, linkRows, refuse, begin, send, purge, answerBest, fillRows, step}
 
 -- the first of a list whose fact holds, or another
 abbrev pub firstThat : List (Bool × ℕ) → (other : ℕ) → ℕ
@@ -36,6 +36,8 @@ pub record Questions : Type 0 where
   pub unidirectional : Bool
   pub bidirectional : Bool
   pub duplicate : Bool
+  -- no duplicate, or with the record's last TTL
+  pub fresh : Bool
 
 module _ (W : Words) (s : StateOf W) (r : ReceiveArgs) (h : Header) where
   -- the originator's record, if one is held
@@ -52,6 +54,7 @@ module _ (W : Words) (s : StateOf W) (r : ReceiveArgs) (h : Header) where
         unidirectional = isU (h .flags);
         bidirectional = W .hasRow (s .config) (s .rows) (linkBy r);
         duplicate = isDuplicate W (s .config) r h found;
+        fresh = isFresh W (s .config) r h found;
       }
 
   -- the record that counting would leave
@@ -93,14 +96,8 @@ module _ (W : Words) (s : StateOf W) (r : ReceiveArgs) (h : Header) where
     recordThen = lookup (h .originator) (stateThen .records)
 
     -- best is judged after counting, duplicate and last TTL before it
-    abbrev pub isBestThen : Bool
-    isBestThen = maybe recordThen false (λ a. eqb (W .best (s .config) a) (linkBy r))
-
-    abbrev pub hasLastTtl : Bool
-    hasLastTtl = maybe found false (λ a. eqb (h .ttl) (W .lastTtl a))
-
     abbrev pub wouldPass : Bool
-    wouldPass = leb ttlLeast (h .ttl) && (singleHop r h || (q .bidirectional && (isBestThen && (not (q .duplicate) || hasLastTtl))))
+    wouldPass = leb ttlLeast (h .ttl) && (singleHop r h || (q .bidirectional && (isBestBy W (s .config) r recordThen && q .fresh)))
 
     abbrev pub verdicts : List (Bool × ℕ)
     verdicts =
@@ -125,16 +122,8 @@ module _ (W : Words) (s : StateOf W) (r : ReceiveArgs) (h : Header) where
     taken =
         record {
           reply =
-              record {
-                answer = received (record {
-                  number = verdictThen;
-                  place = 0;
-                  flags = cond (eqb verdictThen 26) (flagsElsewhere (h .flags)) 0;
-                  route = routeOf W (s .config) recordThen;
-                });
-                output = cond (eqb verdictThen 26) (writtenTo copy (r .output)) (r .output);
-                rows = [];
-              };
+              answeredWriting (received (receivedAs verdictThen 0 (cond (eqb verdictThen 26) (flagsElsewhere (h .flags)) 0) (routeOf W (s .config) recordThen)))
+              (cond (eqb verdictThen 26) (writtenTo copy (r .output)) (r .output));
           state = stateThen;
         }
 
@@ -176,6 +165,6 @@ module _ (W : Words) (cells : ℕ) (s : StateOf W) where
   -- otherwise it has its outcome, and answers none of 1 to 13
   pub record Exactly (c : Call) : Type 0 where
     pub refused : (f : Fault) → firstOf (facts c) ≡ some f → step W cells s c ≡ refuse W c s f
-    pub numbers : (f : Fault) → firstOf (facts c) ≡ some f → within 2 13 (f .number) ≡ true
+    pub numbers : (f : Fault) → firstOf (facts c) ≡ some f → isRuleRefusal (f .number) ≡ true
     pub accepted : firstOf (facts c) ≡ none → step W cells s c ≡ outcome c
-    pub noRefusal : within 1 13 (numberOf (outcome c .reply .answer)) ≡ false
+    pub noRefusal : isRefusal (numberOf (outcome c .reply .answer)) ≡ false

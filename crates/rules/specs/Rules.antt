@@ -16,19 +16,13 @@ use Rattle.wire.specs.Check.{given, firstOf, packetFault, writtenFault}
 use Rattle.wire.specs.PassOn.{flagsHere, flagsElsewhere, passedOn}
 use Rattle.rules.specs.declared.Route.{Route}
 use Rattle.rules.specs.declared.LinkRow.{LinkRow}
+use Rattle.rules.specs.declared.Ogm.{Ogm}
 use Rattle.rules.specs.Settings.{neighbourMost, linkMost, ttlLeast, MakeArgs, Config, configOf, makeAllowed, interfaceAt, isInUse, isOwn, isBroadcast}
-use Rattle.rules.specs.Calls.{linkOf, neighbourOf, interfaceOf, noRoute, made, received, written, swept, asked, listed, ReceiveArgs, OwnArgs, Call, make, receive, own, sweep, ask, list, Reply, answered, refusal}
+use Rattle.rules.specs.Calls.{linkOf, neighbourOf, interfaceOf, noRoute, made, received, written, swept, asked, listed, receivedAs, writtenAs, ReceiveArgs, OwnArgs, Call, make, receive, own, sweep, ask, list, Reply, answered, answeredWriting, answeredFilling, refusal}
 
 -- ---- words
 
--- a counted OGM: the link that it came by, its number, TTL and time
-pub record Ogm : Type 0 where
-  pub link : ℕ
-  pub sequence : ℕ
-  pub ttl : ℕ
-  pub time : ℕ
-
--- its number, as two octets have it
+-- the number of a counted OGM, as two octets have it
 abbrev pub sequenceOf : Ogm → ℕ
 sequenceOf m = m .sequence % numbers
 
@@ -67,7 +61,10 @@ pub record Words : Type 1 where
   pub lastTtl : Record → ℕ
   -- the number is inside the window and already marked on this link
   pub duplicate : Config → Record → (link number : ℕ) → Bool
+  -- the link that the best question answers
   pub best : Config → Record → ℕ
+  -- a link is best
+  pub isBest : Config → Record → (link : ℕ) → Bool
   -- the held links, which have marks or are best, with their counts, rising by pair
   pub links : Config → Record → List (ℕ × ℕ)
   -- the neighbour rows
@@ -161,13 +158,8 @@ isEcho κ ns r h = and (echoTests κ ns r h)
 -- verdicts 25 and 26: only 26 writes, and only the packet's length; its answer carries the flags octet for the other interfaces
 unfoldable pub conclude : ReceiveArgs → Header → (bidirectional passed : Bool) → Route → Reply
 conclude r h bidirectional true route =
-    record {
-      answer = received (record { number = 26; place = 0; flags = flagsElsewhere (h .flags); route = route });
-      output = writtenTo (passedOn (flagsHere (singleHop r h) bidirectional (h .flags)) (r .packet)) (r .output);
-      rows = [];
-    }
-conclude r h bidirectional false route =
-    record { answer = received (record { number = 25; place = 0; flags = 0; route = route }); output = r .output; rows = [] }
+    answeredWriting (received (receivedAs 26 0 (flagsElsewhere (h .flags)) route)) (writtenTo (passedOn (flagsHere (singleHop r h) bidirectional (h .flags)) (r .packet)) (r .output))
+conclude r h bidirectional false route = answeredWriting (received (receivedAs 25 0 0 route)) (r .output)
 
 -- ---- the packet that own writes
 
@@ -238,7 +230,7 @@ module _ (W : Words) where
         interface = interfaceOf (e .0);
         count = e .1;
         window = κ .settings .window;
-        best = cond (eqb (e .0) (W .best κ a)) 1 0;
+        best = cond (W .isBest κ a (e .0)) 1 0;
       }) (W .links κ a))
 
   unfoldable pub answerBest : StateOf → Option (W .Record) → OutcomeOf
@@ -247,62 +239,59 @@ module _ (W : Words) where
   -- the rows rs at the start of the caller's
   unfoldable pub fillRows : StateOf → List LinkRow → (rs : List LinkRow) → OutcomeOf
   fillRows s lent rs =
-      record { reply = record { answer = listed (record { number = 0; filled = length rs }); output = []; rows = writtenTo rs lent }; state = s }
+      record { reply = answeredFilling (listed (record { number = 0; filled = length rs })) (writtenTo rs lent); state = s }
 
   -- ---- receiving
 
   -- verdicts 20 to 24: nothing is written; the route is what the best question would then answer for the packet's originator
   unfoldable pub verdict : ReceiveArgs → Header → ℕ → StateOf → OutcomeOf
-  verdict r h v s =
-      record {
-        reply =
-            record {
-              answer = received (record { number = v; place = 0; flags = 0; route = routeOf (s .config) (lookup (h .originator) (s .records)) });
-              output = r .output;
-              rows = [];
-            };
-        state = s;
-      }
+  verdict r h v s = record { reply = answeredWriting (received (receivedAs v 0 0 (routeOf (s .config) (lookup (h .originator) (s .records))))) (r .output); state = s }
 
-  -- *passed on*; x is the originator's record as it stands once the packet is counted or not counted
-  abbrev pub isPassedOn : Config → ReceiveArgs → Header → (bidirectional duplicate : Bool) → Option (W .Record) → Bool
-  isPassedOn κ r h bidirectional duplicate x =
-      leb ttlLeast (h .ttl)
-      && (singleHop r h || (bidirectional && maybe x false (λ a. eqb (W .best κ a) (linkBy r) && (not duplicate || eqb (h .ttl) (W .lastTtl a)))))
+  -- the link that the packet came by is best, x being the originator's record once the packet is counted or not counted
+  abbrev pub isBestBy : Config → ReceiveArgs → Option (W .Record) → Bool
+  isBestBy κ r x = maybe x false (λ a. W .isBest κ a (linkBy r))
+
+  -- *passed on*; fresh is judged before counting, best after it
+  abbrev pub isPassedOn : Config → ReceiveArgs → Header → (bidirectional fresh : Bool) → Option (W .Record) → Bool
+  isPassedOn κ r h bidirectional fresh x = leb ttlLeast (h .ttl) && (singleHop r h || (bidirectional && (isBestBy κ r x && fresh)))
 
   -- the record a, after counting, takes its place; 11: more than 8 links would have marks or be best
-  unfoldable pub storeCounted : StateOf → ReceiveArgs → Header → W .Record → OutcomeOf
-  storeCounted s r h a =
+  unfoldable pub storeCounted : StateOf → ReceiveArgs → Header → (fresh : Bool) → W .Record → OutcomeOf
+  storeCounted s r h fresh a =
       unless (given (ltb linkMost (length (W .links (s .config) a))) 11)
       (refuse (receive r) s)
       (record {
-        reply = conclude r h true (isPassedOn (s .config) r h true false (some a)) (routeOf (s .config) (some a));
+        reply = conclude r h true (isPassedOn (s .config) r h true fresh (some a)) (routeOf (s .config) (some a));
         state = withRecords s (r .time) (put (h .originator) a (s .records));
       })
 
   -- the first counted OGM makes the record; 10: capacity is reached
-  unfoldable pub counted : StateOf → ReceiveArgs → Header → Option (W .Record) → OutcomeOf
-  counted s r h none =
+  unfoldable pub counted : StateOf → ReceiveArgs → Header → (fresh : Bool) → Option (W .Record) → OutcomeOf
+  counted s r h fresh none =
       unless (given (leb (s .config .settings .capacity) (length (s .records))) 10)
       (refuse (receive r) s)
-      (storeCounted s r h (W .first (s .config) (message r h)))
-  counted s r h (some a) = storeCounted s r h (W .next (s .config) (message r h) a)
+      (storeCounted s r h fresh (W .first (s .config) (message r h)))
+  counted s r h fresh (some a) = storeCounted s r h fresh (W .next (s .config) (message r h) a)
 
-  unfoldable pub uncounted : StateOf → ReceiveArgs → Header → (bidirectional duplicate : Bool) → Option (W .Record) → OutcomeOf
-  uncounted s r h bidirectional duplicate x =
+  unfoldable pub uncounted : StateOf → ReceiveArgs → Header → (bidirectional fresh : Bool) → Option (W .Record) → OutcomeOf
+  uncounted s r h bidirectional fresh x =
       record {
-        reply = conclude r h bidirectional (isPassedOn (s .config) r h bidirectional duplicate x) (routeOf (s .config) x);
+        reply = conclude r h bidirectional (isPassedOn (s .config) r h bidirectional fresh x) (routeOf (s .config) x);
         state = withTime s (r .time);
       }
 
   abbrev pub isDuplicate : Config → ReceiveArgs → Header → Option (W .Record) → Bool
   isDuplicate κ r h x = maybe x false (λ a. W .duplicate κ a (linkBy r) (sequenceOf (message r h)))
 
+  -- the OGM is no duplicate or has the record's last TTL
+  abbrev pub isFresh : Config → ReceiveArgs → Header → Option (W .Record) → Bool
+  isFresh κ r h x = not (isDuplicate κ r h x) || maybe x false (λ a. eqb (h .ttl) (W .lastTtl a))
+
   -- *counted*: the link has a neighbour row and the OGM is no duplicate
   unfoldable pub decide : StateOf → ReceiveArgs → Header → (bidirectional : Bool) → Option (W .Record) → OutcomeOf
   decide s r h bidirectional x =
-      let duplicate = isDuplicate (s .config) r h x in
-      branch (bidirectional && not duplicate) (counted s r h x) (uncounted s r h bidirectional duplicate x)
+      let fresh = isFresh (s .config) r h x in
+      branch (bidirectional && not (isDuplicate (s .config) r h x)) (counted s r h fresh x) (uncounted s r h bidirectional fresh x)
 
   -- the neighbour row for sender and interface takes this number, made if absent: 22; 9: it needs a row and 32 are held
   unfoldable pub takeEcho : StateOf → ReceiveArgs → Header → OutcomeOf
@@ -329,12 +318,7 @@ module _ (W : Words) where
       let i = a .interface in
       let ns = sendOn (s .config) (s .sends) i in
       record {
-        reply =
-            record {
-              answer = written (record { number = 0; place = 0; length = length p; sequence = nextNumber (s .config) (s .sends) i });
-              output = writtenTo p (a .output);
-              rows = [];
-            };
+        reply = answeredWriting (written (writtenAs 0 0 (length p) (nextNumber (s .config) (s .sends) i))) (writtenTo p (a .output));
         state = withRows s (a .time) ns (W .sent (s .config) ns i (s .rows));
       }
 

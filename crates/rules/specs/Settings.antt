@@ -1,5 +1,6 @@
 -- Document 01, "Settings and sizes": limits, settings, interface rows, and how many cells a table needs.
-use Prim.Native.Nat.{ℕ, _+_, _*_}
+use Prim.Native.Nat.{ℕ, _+_, _*_, _≤_}
+use mathlib.Core.Path.{_≡_}
 use mathlib.Core.Bool.{Bool, true, _&&_, not}
 use mathlib.Core.List.{List, [], _∷_, map}
 use lib.Dec.{ltb, leb, eqb}
@@ -8,6 +9,7 @@ use Rattle.lists.specs.Lists.{and, all, elem}
 use Rattle.window.specs.Window.{numbers}
 use Rattle.rules.specs.declared.Settings.{Settings}
 use Rattle.rules.specs.declared.Interface.{Interface}
+use Rattle.rules.specs.declared.Policy.{Policy}
 
 -- ---- limits
 
@@ -115,6 +117,17 @@ configTests κ =
 
 unfoldable pub allowed : Config → Bool
 allowed κ = and (configTests κ)
+
+-- ---- what counting is told
+
+-- the policy is that of the settings
+pub record Follows (κ : Config) (p : Policy) : Type 0 where
+  pub window : p .window ≡ κ .settings .window
+
+-- one that allowed settings have
+pub record Bounded (p : Policy) : Type 0 where
+  pub least : 1 ≤ p .window
+  pub most : p .window ≤ windowMost
 
 -- ---- cells, by the table's layout
 

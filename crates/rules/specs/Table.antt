@@ -9,7 +9,8 @@ use Rattle.lists.specs.Keyed.{lookup, hasKey, put, mapValues}
 use Rattle.window.specs.Window.{distance, inside, advance, marked, shift, mark, count, hasMark}
 use Rattle.rules.specs.Settings.{Config}
 use Rattle.rules.specs.Calls.{interfaceOf}
-use Rattle.rules.specs.Rules.{Ogm, sequenceOf, notHigher, Sends, lastSent, Words, State}
+use Rattle.rules.specs.declared.Ogm.{Ogm}
+use Rattle.rules.specs.Rules.{sequenceOf, notHigher, Sends, lastSent, Words, State}
 
 -- ---- records
 
@@ -87,6 +88,7 @@ table =
       lastTtl = λ r. r .lastTtl;
       duplicate = isMarked;
       best = λ κ r. r .best;
+      isBest = λ κ r l. eqb (r .best) l;
       links = λ κ r. mapValues count (r .links);
       Rows = TableRows;
       noRows = [];

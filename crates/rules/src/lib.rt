@@ -28,6 +28,19 @@ pub struct Interface {
     pub first: u16,
 }
 
+// An originator message on its way to a record: the link that it came by, its sequence number, TTL and time.
+pub struct Ogm {
+    pub link: u64,
+    pub sequence: u16,
+    pub ttl: u8,
+    pub time: u64,
+}
+
+// What counting is told of the settings: the window size W.
+pub struct Policy {
+    pub window: u64,
+}
+
 // What the best question answers. No route is all zeros.
 #[repr(C)]
 pub struct Route {

@@ -1,9 +1,9 @@
 // What make is given: its numbers as settings and interface rows.
+use rules::Interface;
+use rules::Settings;
 use script_numbers::NUMBERS_MOST;
 use script_numbers::address;
 use script_numbers::sequence;
-use rules::Interface;
-use rules::Settings;
 ghost use Prim.Native.Nat.{_+_, _<_};
 
 // How many numbers stand before the interface rows, and how many a row has.

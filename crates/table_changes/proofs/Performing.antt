@@ -6,27 +6,21 @@ use Prim.Native.Nat.{ℕ}
 use lib.ListN.{length}
 use Rattle.wire.specs.declared.Fault.{Fault}
 use Rattle.wire.specs.Check.{numbered}
-use Rattle.rules.specs.Calls.{Call, Answer, refusal}
+use Rattle.rules.specs.Calls.{Call, Reply, refusal}
 use Rattle.rules.specs.Rules.{Outcome, branch, refuse, step}
 use Rattle.rules.specs.Table.{TableRows, TableRecord, table}
 use Rattle.table_layout.specs.Cells.{encode, decode, wellFormed}
-use Rattle.table_layout.specs.Calls.{Done, stepped, refused, asks, unasked, callOn}
+use Rattle.table_layout.specs.Calls.{Done, stepped, refused, asks, unasked, callOn, Performed}
 use Rattle.table_layout.proofs.Encoding.{encode-decode}
-use Rattle.table_changes.specs.Performed.{Performed}
 
 module _ (c : List ℕ) (call : Call) where
-  by-branch : (d : Done) → callOn c call ≡ d → (answer : Answer) (output cells : List ℕ) → answer ≡ d .reply .answer → output ≡ d .reply .output → cells ≡ d .cells → Performed c call answer output cells
-  by-branch d e answer output cells ea eo ec =
-      record {
-        answers = ea ∙ ap (λ (x : Done). x .reply .answer) (sym e);
-        writes = eo ∙ ap (λ (x : Done). x .reply .output) (sym e);
-        leaves = ec ∙ ap (λ (x : Done). x .cells) (sym e);
-      }
+  by-branch : (d : Done) → callOn c call ≡ d → (reply : Reply) (cells : List ℕ) → reply ≡ d .reply → cells ≡ d .cells → Performed c call reply cells
+  by-branch d e reply cells er ec = record { replies = er ∙ ap (λ (x : Done). x .reply) (sym e); leaves = ec ∙ ap (λ (x : Done). x .cells) (sym e) }
 
   -- the cells are not what the call asks: nothing is changed
-  pub not-asked : asks c call ≡ false → Performed c call (refusal call (numbered (unasked call)) .answer) (refusal call (numbered (unasked call)) .output) c
+  pub not-asked : asks c call ≡ false → Performed c call (refusal call (numbered (unasked call))) c
   unfolding callOn branch
-  not-asked e = by-branch (refused c call (unasked call)) (rw e) _ _ _ refl refl refl
+  not-asked e = by-branch (refused c call (unasked call)) (rw e) _ _ refl refl
 
   module _ (asked : asks c call ≡ true) where
     taken : callOn c call ≡ stepped c call
@@ -34,12 +28,12 @@ module _ (c : List ℕ) (call : Call) where
     taken = rw asked
 
     -- the rules do something
-    pub does : (o : Outcome TableRows TableRecord) → step table (length c) (decode c) call ≡ o → (answer : Answer) (output cells : List ℕ)
-        → answer ≡ o .reply .answer → output ≡ o .reply .output → cells ≡ encode (o .state) → Performed c call answer output cells
-    does o e answer output cells ea eo ec =
-        by-branch (stepped c call) taken answer output cells (ea ∙ ap (λ (x : Outcome TableRows TableRecord). x .reply .answer) (sym e))
-        (eo ∙ ap (λ (x : Outcome TableRows TableRecord). x .reply .output) (sym e)) (ec ∙ ap (λ (x : Outcome TableRows TableRecord). encode (x .state)) (sym e))
+    pub does : (o : Outcome TableRows TableRecord) → step table (length c) (decode c) call ≡ o → (reply : Reply) (cells : List ℕ)
+        → reply ≡ o .reply → cells ≡ encode (o .state) → Performed c call reply cells
+    does o e reply cells er ec =
+        by-branch (stepped c call) taken reply cells (er ∙ ap (λ (x : Outcome TableRows TableRecord). x .reply) (sym e))
+        (ec ∙ ap (λ (x : Outcome TableRows TableRecord). encode (x .state)) (sym e))
 
     -- the rules refuse: nothing is changed
-    pub refuses : wellFormed c ≡ true → (f : Fault) → step table (length c) (decode c) call ≡ refuse table call (decode c) f → Performed c call (refusal call f .answer) (refusal call f .output) c
-    refuses well f e = does (refuse table call (decode c) f) e _ _ _ refl refl (sym (encode-decode c well))
+    pub refuses : wellFormed c ≡ true → (f : Fault) → step table (length c) (decode c) call ≡ refuse table call (decode c) f → Performed c call (refusal call f) c
+    refuses well f e = does (refuse table call (decode c) f) e _ _ refl (sym (encode-decode c well))

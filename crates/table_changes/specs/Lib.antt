@@ -1,3 +1,2 @@
--- A table with one thing changed, and what a public call promises.
+-- A table with one thing changed.
 pub mod Changes
-pub mod Performed

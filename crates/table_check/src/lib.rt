@@ -1,7 +1,5 @@
 // The check of a whole table, which every call but make and packet check begins with.
 use cells::all_zero;
-use table_settings::head_ok;
-use table_settings::interfaces_ok;
 use table_layout::INTERFACE;
 use table_layout::INTERFACES_FROM;
 use table_layout::LAST;
@@ -22,6 +20,8 @@ use table_record::PAIRS;
 use table_record::WIDTH;
 use table_record_check::Limits;
 use table_record_check::record_ok;
+use table_settings::head_ok;
+use table_settings::interfaces_ok;
 use window::distance;
 ghost use mathlib.Core.Path.{_≡_};
 ghost use mathlib.Core.Bool.{cond};

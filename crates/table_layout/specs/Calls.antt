@@ -1,12 +1,16 @@
--- What a call does to the cells that it is lent: the rules' step on the table that they hold.
+-- What a call does to the cells that it is lent: the rules' step on the table that they hold. And what every public call promises.
+use mathlib.Core.Path.{_≡_}
 use mathlib.Core.List.{List}
-use mathlib.Core.Bool.{Bool}
+use mathlib.Core.Bool.{Bool, true}
+use mathlib.Core.Option.{Option, none, some}
 use Prim.Native.Nat.{ℕ}
 use lib.ListN.{length}
-use Rattle.rules.specs.Settings.{makeAllowed}
+use Rattle.lists.specs.Lists.{maybe}
+use Rattle.rules.specs.Settings.{MakeArgs, makeAllowed}
 use Rattle.rules.specs.Calls.{Call, make, receive, own, sweep, ask, list, Reply, refusal}
 use Rattle.rules.specs.Rules.{branch, step}
 use Rattle.rules.specs.Table.{table}
+use Rattle.rules.specs.WellFormed.{typed}
 use Rattle.table_layout.specs.Cells.{encode, decode, wellFormed}
 
 -- a call's reply, and the cells as it leaves them
@@ -22,23 +26,34 @@ refused c call n = record { reply = refusal call (record { number = n; place = 0
 abbrev pub stepped : List ℕ → Call → Done
 stepped c call = record { reply = step table (length c) (decode c) call .reply; cells = encode (step table (length c) (decode c) call .state) }
 
+-- what a make is given; every other call is on a table that was made
+abbrev pub makeOf : Call → Option MakeArgs
+makeOf (make a) = some a
+makeOf (receive r) = none
+makeOf (own a) = none
+makeOf (sweep t) = none
+makeOf (ask o) = none
+makeOf (list o rs) = none
+
 -- what a call asks of the cells: make, only that they are as many as it needs; every other, that they are a well-formed table's
 abbrev pub asks : List ℕ → Call → Bool
-asks c (make a) = makeAllowed (length c) a
-asks c (receive r) = wellFormed c
-asks c (own a) = wellFormed c
-asks c (sweep t) = wellFormed c
-asks c (ask o) = wellFormed c
-asks c (list o rs) = wellFormed c
+asks c call = maybe (makeOf call) (wellFormed c) (λ a. makeAllowed (length c) a)
 
 -- the refusal where they are not
 abbrev pub unasked : Call → ℕ
-unasked (make a) = 12
-unasked (receive r) = 1
-unasked (own a) = 1
-unasked (sweep t) = 1
-unasked (ask o) = 1
-unasked (list o rs) = 1
+unasked call = maybe (makeOf call) 1 (λ a. 12)
 
 unfoldable pub callOn : List ℕ → Call → Done
 callOn c call = branch (asks c call) (stepped c call) (refused c call (unasked call))
+
+-- ---- what a call promises, whatever it is lent
+
+-- lent the cells c, the call gives the rules' reply (its answer, and output and rows as it leaves them), and leaves the cells as they say
+pub record Performed (c : List ℕ) (call : Call) (reply : Reply) (cells : List ℕ) : Type 0 where
+  pub replies : reply ≡ callOn c call .reply
+  pub leaves : cells ≡ callOn c call .cells
+
+-- a public call's contract: besides, its arguments are in the ranges of their types, which histories ask for
+pub record Promised (c : List ℕ) (call : Call) (reply : Reply) (cells : List ℕ) : Type 0 where
+  pub performed : Performed c call reply cells
+  pub typed : typed call ≡ true

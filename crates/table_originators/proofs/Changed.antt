@@ -18,7 +18,7 @@ use Rattle.cells.proofs.Pairs.{pair-wide}
 use Rattle.cells.proofs.Trips.{length-decoded}
 use Rattle.cells.proofs.Search.{belowKey, aboveKey, Among, among, apart, put-among, put-apart}
 use Rattle.rules.specs.Settings.{interfaceMost, neighbourMost, linkMost, interfaceCells, recordCells}
-use Rattle.rules.specs.Rules.{Ogm}
+use Rattle.rules.specs.declared.Ogm.{Ogm}
 use Rattle.rules.specs.Table.{TableRecord, TableState, nextRecord}
 use Rattle.table_record.specs.Record.{encodeRecord, decodeRecord}
 use Rattle.table_record.proofs.Rows.{length-record}

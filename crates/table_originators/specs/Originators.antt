@@ -11,7 +11,7 @@ use Rattle.cells.specs.Find.{IsAt, IsPlace}
 use Rattle.cells.specs.declared.Found.{Found}
 use Rattle.cells.specs.declared.Found.the-variants.{At, Place}
 use Rattle.rules.specs.Settings.{linkMost, recordCells}
-use Rattle.rules.specs.Rules.{Ogm}
+use Rattle.rules.specs.declared.Ogm.{Ogm}
 use Rattle.rules.specs.Table.{TableRecord, TableState, nextRecord}
 use Rattle.table_record.specs.Record.{decodeRecord, Held}
 use Rattle.table_layout.specs.Layout.{recordsFrom}

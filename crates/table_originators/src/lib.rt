@@ -1,12 +1,12 @@
 // The originators' records in a table's cells: found by address, counted in, and made.
 use cells::Found;
 use cells::find;
+use cells_moves::put_in;
 use count_in_record::count_message;
 use count_in_record::first_record;
 use table_layout::RECORDS;
 use table_layout::RECORDS_FROM;
 use table_layout::WINDOW;
-use cells_moves::put_in;
 use table_record::WIDTH;
 ghost use mathlib.Core.Path.{_≡_};
 ghost use Prim.Native.Nat.{ℕ, _<_};

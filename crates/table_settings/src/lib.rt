@@ -1,5 +1,6 @@
 // Settings and interface rows: what make is given, and what the cells hold of them.
 use cells::all_zero;
+use rules::Settings;
 use table_layout::BROADCAST;
 use table_layout::CAPACITY;
 use table_layout::CAPACITY_MOST;
@@ -31,7 +32,6 @@ use table_layout::WINDOW_MOST;
 use table_record::ADDRESSES;
 use table_record::NUMBERS;
 use table_record::WIDTH;
-use rules::Settings;
 ghost use mathlib.Core.Path.{_≡_};
 ghost use mathlib.Core.Bool.{_&&_};
 ghost use mathlib.Core.List.{[], _∷_};

@@ -1,4 +1,4 @@
--- How large a refusal's numbers are: a number of at most 8, and a place of at most m. Assumes nothing.
+-- How large a refusal's numbers are: a number of at most `numberMost`, and a place of at most m. Assumes nothing.
 use mathlib.Core.Path.{_≡_, refl}
 use mathlib.Core.Bool.{Bool, true, false, not, _||_, _&&_, or-true}
 use mathlib.Core.List.{List, [], _∷_}
@@ -9,31 +9,28 @@ use borrow.Author.Tests.{ltb-false, leb-true, le-leb}
 use lib.Dec.{ltb, leb, eqb}
 use lib.ListN.{length, length-drop}
 use Rattle.lists.specs.Lists.{maybe, all}
+use Rattle.lists.proofs.Tests.{and-left, and-right}
 use Rattle.wire.specs.declared.Fault.{Fault}
 use Rattle.wire.specs.Layout.{headerSize, entrySize, packetMost, maskMost, versionAt}
 use Rattle.wire.specs.Packet.{octet, hna}
 use Rattle.wire.specs.Check.{given, firstOf, faultOf, entries, mask, maskFault, firstBadMask, hnaFaults, hnaFault, packetFaults, packetFault}
 use Rattle.wire.proofs.Search.{below}
 
+-- the last of the refusals that rest on a packet's octets
+abbrev pub numberMost : ℕ
+numberMost = 8
+
 unfoldable isSmall : ℕ → Option Fault → Bool
-isSmall m x = maybe x true (λ f. leb (f .number) 8 && leb (f .place) m)
-
-and-first : (a b : Bool) → (a && b) ≡ true → a ≡ true
-and-first true b h = refl
-and-first false b h = h
-
-and-second : (a b : Bool) → (a && b) ≡ true → b ≡ true
-and-second true b h = h
-and-second false b h = let z : true ≡ false = cc in cc
+isSmall m x = maybe x true (λ f. leb (f .number) numberMost && leb (f .place) m)
 
 -- where all of a list are small, the first of them is
 first-small : (m : ℕ) (fs : List (Option Fault)) → all (isSmall m) fs ≡ true → isSmall m (firstOf fs) ≡ true
 unfolding isSmall
 first-small m [] h = refl
 first-small m (none ∷ fs) h = first-small m fs h
-first-small m (some f ∷ fs) h = and-first (leb (f .number) 8 && leb (f .place) m) (all (isSmall m) fs) h
+first-small m (some f ∷ fs) h = and-left (leb (f .number) numberMost && leb (f .place) m) (all (isSmall m) fs) h
 
-given-small : (m : ℕ) (t : Bool) (n : ℕ) → n ≤ 8 → isSmall m (given t n) ≡ true
+given-small : (m : ℕ) (t : Bool) (n : ℕ) → n ≤ numberMost → isSmall m (given t n) ≡ true
 unfolding isSmall
 given-small m true n h = rw (le-leb n 8 h, le-leb 0 m (omega arith))
 given-small m false n h = refl
@@ -50,7 +47,7 @@ wider : (m n : ℕ) (x : Option Fault) → m ≤ n → isSmall m x ≡ true → 
 unfolding isSmall
 wider m n none l h = refl
 wider m n (some f) l h =
-    rw (and-first (leb (f .number) 8) (leb (f .place) m) h, le-leb (f .place) n (omega (arith, leb-true (f .place) m (and-second (leb (f .number) 8) (leb (f .place) m) h))))
+    rw (and-left (leb (f .number) numberMost) (leb (f .place) m) h, le-leb (f .place) n (omega (arith, leb-true (f .place) m (and-right (leb (f .number) numberMost) (leb (f .place) m) h))))
 
 hna-small : (e : List ℕ) → isSmall (length e) (hnaFault e) ≡ true
 unfolding hnaFault
@@ -78,7 +75,7 @@ small-packet v p = go (ltb packetMost (length p)) refl
         ))
 
 pub record Small (m : ℕ) (f : Fault) : Type 0 where
-  pub number : f .number ≤ 8
+  pub number : f .number ≤ numberMost
   pub place : f .place ≤ m
 
 pub packet-small : (v : ℕ) (p : List ℕ) → Small packetMost (faultOf (packetFault v p))
@@ -89,6 +86,6 @@ packet-small v p = go (packetFault v p) (small-packet v p)
     go none h = record { number = omega arith; place = omega arith }
     go (some f) h =
         record {
-          number = leb-true (f .number) 8 (and-first (leb (f .number) 8) (leb (f .place) packetMost) h);
-          place = leb-true (f .place) packetMost (and-second (leb (f .number) 8) (leb (f .place) packetMost) h);
+          number = leb-true (f .number) numberMost (and-left (leb (f .number) numberMost) (leb (f .place) packetMost) h);
+          place = leb-true (f .place) packetMost (and-right (leb (f .number) numberMost) (leb (f .place) packetMost) h);
         }
