@@ -3,8 +3,8 @@ use cells_moves::clear;
 use cells_moves::write;
 use rules::Interface;
 use rules::Settings;
-use table_layout::CAPACITY_MOST;
-use table_layout::INTERFACE_MOST;
+use rules::limits::CAPACITY_MOST;
+use rules::limits::INTERFACES_MOST;
 use table_layout::RECORDS_FROM;
 use table_record::WIDTH;
 use table_settings::own_differ;
@@ -35,7 +35,7 @@ fn make_allowed(n: usize, settings: Settings, rows: [Interface; 4], used: u64) -
     if !settings_ok(settings) {
         return false;
     }
-    if !((1 <= used) & (used <= INTERFACE_MOST)) {
+    if !((1 <= used) & (used <= INTERFACES_MOST)) {
         return false;
     }
     let a = rows[0];

@@ -50,18 +50,3 @@ pub const OWN_1: usize = OWN_0 + INTERFACE;
 pub const OWN_2: usize = OWN_1 + INTERFACE;
 
 pub const OWN_3: usize = OWN_2 + INTERFACE;
-
-// The limits of the settings, and of interfaces in use and neighbour rows held.
-pub const VERSION_MOST: u64 = 255;
-
-pub const WINDOW_MOST: u64 = 64;
-
-pub const TIMEOUT_MOST: u64 = 1000;
-
-pub const PURGE_MOST: u64 = 4294967295;
-
-pub const CAPACITY_MOST: u64 = 256;
-
-pub const INTERFACE_MOST: u64 = 4;
-
-pub const NEIGHBOUR_MOST: u64 = 32;

@@ -6,6 +6,8 @@ use cells_moves::clear;
 use cells_moves::move_down;
 use cells_moves::put_in;
 use cells_moves::write;
+use rules::limits::INTERFACES_MOST;
+use rules::limits::NEIGHBOURS_MOST;
 use window::NUMBERS;
 use window::distance;
 ghost use mathlib.Core.Path.{_≡_};
@@ -20,10 +22,7 @@ ghost use Rattle.table_neighbours.specs.Neighbours.{RowsHeld, EchoTaken,
 // The cells of a row: a link, and the number recorded for it. How many rows there is room for.
 const ROW: usize = PAIR;
 
-const ROOM: usize = 32;
-
-// A link is the pair address * 4 + interface.
-const INTERFACES: u64 = 4;
+const ROOM: usize = NEIGHBOURS_MOST as usize;
 
 // How many rows are held after an echo, or that there is no room for one more.
 pub enum Echo {
@@ -70,7 +69,7 @@ fn stays(link: u64, number: u64, interface: u64, last: u16, timeout: u64) -> boo
     requires { ⌜ number < 65536 ⌝ }
     ensures { λ r. ⌜ r ≡ staysAfter interface last timeout (link, number) ⌝ }
 {
-    (link % INTERFACES != interface) | (distance(last, (number % NUMBERS) as u16) < timeout)
+    (link % INTERFACES_MOST != interface) | (distance(last, (number % NUMBERS) as u16) < timeout)
 }
 
 // Whether every row stays, as they nearly always do.

@@ -1,15 +1,20 @@
 // Settings and interface rows: what make is given, and what the cells hold of them.
 use cells::all_zero;
 use rules::Settings;
+use rules::limits::ADDRESSES;
+use rules::limits::CAPACITY_MOST;
+use rules::limits::INTERFACES_MOST;
+use rules::limits::NEIGHBOURS_MOST;
+use rules::limits::PURGE_MOST;
+use rules::limits::TIMEOUT_MOST;
+use rules::limits::VERSION_MOST;
+use rules::limits::WINDOW_MOST;
 use table_layout::BROADCAST;
 use table_layout::CAPACITY;
-use table_layout::CAPACITY_MOST;
 use table_layout::FIRST;
 use table_layout::INTERFACE;
-use table_layout::INTERFACE_MOST;
 use table_layout::INTERFACES_FROM;
 use table_layout::LAST;
-use table_layout::NEIGHBOUR_MOST;
 use table_layout::NEIGHBOURS_FROM;
 use table_layout::OWN;
 use table_layout::OWN_0;
@@ -17,21 +22,16 @@ use table_layout::OWN_1;
 use table_layout::OWN_2;
 use table_layout::OWN_3;
 use table_layout::PURGE;
-use table_layout::PURGE_MOST;
 use table_layout::RECORDS;
 use table_layout::RECORDS_FROM;
 use table_layout::ROWS;
 use table_layout::SENT;
 use table_layout::TIMEOUT;
-use table_layout::TIMEOUT_MOST;
 use table_layout::USED;
 use table_layout::VERSION;
-use table_layout::VERSION_MOST;
 use table_layout::WINDOW;
-use table_layout::WINDOW_MOST;
-use table_record::ADDRESSES;
-use table_record::NUMBERS;
 use table_record::WIDTH;
+use window::NUMBERS;
 ghost use mathlib.Core.Path.{_≡_};
 ghost use mathlib.Core.Bool.{_&&_};
 ghost use mathlib.Core.List.{[], _∷_};
@@ -80,8 +80,8 @@ pub fn head_ok(cells: &[u64]) -> bool
     if !settings_ok(s) {
         return false;
     }
-    ((1 <= cells[USED]) & (cells[USED] <= INTERFACE_MOST))
-        & ((cells[ROWS] <= NEIGHBOUR_MOST)
+    ((1 <= cells[USED]) & (cells[USED] <= INTERFACES_MOST))
+        & ((cells[ROWS] <= NEIGHBOURS_MOST)
             & ((cells[RECORDS] <= s.capacity)
                 & (cells.len() == RECORDS_FROM + s.capacity as usize * WIDTH)))
 }
