@@ -14,16 +14,14 @@ use Rattle.table_record_check.proofs.fields_ok.Tie as tie
 abbrev from-own : tie.After-is-own → tie.Start
 from-own c = c .before .before .before .before
 
-abbrev to-own : tie.After-shared-slice-known6 → tie.After-is-own
-to-own c = c .before .before .before .before
-
 returns : tie.Need-returns
 returns c =
-    let a = from-own (to-own c) .args in
+    let o = c .before .before .before .before in
+    let a = from-own o .args in
     let row = a .row .now in
     let address = getD row addressAt 0 in
     let n = getD row linksAt 0 in
-    let own = to-own c .is-own in
+    let own = o .is-own in
     record {
       small = λ h. ltb-true address addresses (and-left (isAddress address) _ (and-right (leb (a .low) address) _ h));
       few = λ h. leb-true n linkMost (and-right (leb 1 n) _ (and-right (isOctet (getD row lastTtlAt 0)) _ (and-right (leb (getD row timeAt 0) (a .limits .time)) _
