@@ -1,4 +1,4 @@
--- `sending::send_packet` meets its contract: its steps, one after the other. Assumes nothing.
+-- `call_own_packet::send_packet` meets its contract: its steps, one after the other. Assumes nothing.
 use mathlib.Core.List.{List}
 use Prim.Native.Nat.{ℕ, _+_, _-_}
 use native.Mathlib.Omega.{arith}
@@ -19,7 +19,7 @@ drop-rows-requires c κs =
 
 returns : tie.Need-returns
 returns c =
-    let dropped = c .before .before in
+    let dropped = c .before .before .before in
     let marked = dropped .before .before .before .before in
     let packet = marked .before .before .before .before in
     let head = packet .before .before in
@@ -29,6 +29,7 @@ returns c =
     sent-all cells (s .pre .0) (s .args .i) (s .args .time) (s .args .ttl) (s .args .gateway) (s .args .port) (now (s .args .hna)) (now (s .args .out)) (numbered .next-number .result)
     (next-is cells (s .pre .0) (s .args .i) (s .pre .1) (ownPlace (s .args .i) + interfaceCells - ownPlace (s .args .i)) (numbered .next-number .result) (omega arith) (numbered .next-number .ensures))
     (head .own-header .result) (packet .write-packet .result) _ _ _ (head .own-header .ensures) (packet .write-packet .ensures .0) (packet .write-packet .ensures .1) (marked .mark-sent .ensures) (dropped .drop-rows .ensures)
+    _ (c .written-as .ensures)
 
 pub send-packet-spec : {M : Type 1} → statement M
 send-packet-spec =
@@ -46,6 +47,7 @@ send-packet-spec =
     (λ c κs. search needs)
     (λ c κs. search needs)
     drop-rows-requires
+    (λ c κs. search needs)
     (λ c. search needs)
     (λ c. search needs)
     returns)

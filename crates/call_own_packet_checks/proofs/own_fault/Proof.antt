@@ -1,4 +1,4 @@
--- `own_packets::own_fault` meets its contract. Assumes nothing.
+-- `call_own_packet_checks::own_fault` meets its contract. Assumes nothing.
 use mathlib.Core.Path.{_≡_, sym, ap, _∙_}
 use borrow.Author.Needs.{needs}
 use denote.Ref.{now}

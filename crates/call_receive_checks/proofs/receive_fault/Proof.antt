@@ -1,4 +1,4 @@
--- `incoming::receive_fault` meets its contract. Assumes nothing.
+-- `call_receive_checks::receive_fault` meets its contract: 2, 3, 4, or what the packet check says. Assumes nothing.
 use mathlib.Core.Path.{sym, ap, _∙_}
 use native.Mathlib.Omega.{arith}
 use denote.Ref.{now}

@@ -1,4 +1,4 @@
--- `routing::best::route_to` meets its contract: the route of the record that is found, or none. Assumes nothing.
+-- `call_best::route_to` meets its contract: the route of the record that is found, or none. Assumes nothing.
 use borrow.Author.Needs.{needs}
 use mathlib.Core.Path.{refl, sym, ap, _∙_, subst}
 use mathlib.Core.List.{List}
@@ -9,8 +9,8 @@ use Rattle.rules.specs.Table.{table}
 use Rattle.table_record.specs.Record.{decodeRecord, Held}
 use Rattle.table_layout.specs.Cells.{decode}
 use Rattle.table_originators.specs.Originators.{Stands, RecordFound}
-use Rattle.call_best.proofs.best.route_to.Statement.{statement}
-use Rattle.call_best.proofs.best.route_to.Tie as tie
+use Rattle.call_best.proofs.route_to.Statement.{statement}
+use Rattle.call_best.proofs.route_to.Tie as tie
 
 -- the record stands at place i
 stands : (c : tie.After-f) → Stands (c .before .before .before .before .args .cells .now) (c .before .before .before .before .args .originator) (c .f .given .0 .0)
