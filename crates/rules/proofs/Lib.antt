@@ -6,5 +6,6 @@ pub mod Links
 pub mod Sends
 pub mod Exactly
 pub mod Counting
+pub mod Record
 pub mod WellFormed
 pub mod Promises

@@ -27,7 +27,8 @@ use Rattle.rules.specs.declared.Ogm.{Ogm}
 use Rattle.rules.specs.Rules.{sequenceOf, Sends, hasSent, lastSent, nextNumber, sendOn, linkBy, message, echoTests, ownPacket, fresh, isExpired, answerBest, fillRows, send, purge, step}
 use Rattle.rules.specs.Table.{TableRecord, TableState, firstRecord, nextRecord, recordEcho, rowDistance, dropOld, table}
 use Rattle.rules.specs.Refusals.{Questions, found, questions, countedRecord, foreign, wouldEcho, wouldCount, facts, outcome}
-use Rattle.rules.specs.WellFormed.{sendTests, rowTests, recordTests, tableTests, wellFormed, receiveTypes, typed}
+use Rattle.rules.specs.WellFormed.{sendTests, rowTests, fieldTests, linksTests, recordTests, tableTests, wellFormed, receiveTypes, typed}
+use Rattle.rules.proofs.Record.{record-current, record-rises, record-each, record-best, record-later}
 use Rattle.rules.proofs.Faults.{none-at, not-given}
 use Rattle.rules.proofs.Config.{make-allowed, timeout-low, interfaces-high}
 use Rattle.rules.proofs.Links.{neighbour-of, interface-of}
@@ -89,15 +90,7 @@ fresh-wf κ h =
 -- a record's tests at a later time
 module _ (s : TableState) (w : Wf s) where
   records-later : (t : ℕ) → s .time ≤ t → Held (λ e. and (recordTests (s .config) t e)) (s .config .settings .capacity) (s .records)
-  records-later t l = held-weaken (λ e. and (recordTests (s .config) (s .time) e)) (λ e. and (recordTests (s .config) t e)) (s .config .settings .capacity) (s .records) later (w .records)
-    where
-      later : (e : ℕ × TableRecord) → and (recordTests (s .config) (s .time) e) ≡ true → and (recordTests (s .config) t e) ≡ true
-      later e h =
-          let at = and-at (recordTests (s .config) (s .time) e) h in
-          and-each {ts = recordTests (s .config) t e}
-          (also (at 0) (also (at 1) (also (at 2)
-          (also (le-leb (e .1 .time) t (let x = leb-true (e .1 .time) (s .time) (at 3) in omega arith))
-          (also (at 4) (also (at 5) (also (at 6) (also (at 7) (also (at 8) end)))))))))
+  records-later t l = held-weaken (λ e. and (recordTests (s .config) (s .time) e)) (λ e. and (recordTests (s .config) t e)) (s .config .settings .capacity) (s .records) (λ e h. record-later (s .config) (s .time) e h t l) (w .records)
 
   -- a sweep
   purged : (t : ℕ) → isTime t ≡ true → s .time ≤ t → Wf (purge table s t .state)
@@ -259,9 +252,10 @@ module _ (cells : ℕ) (s : TableState) (w : Wf s) (r : ReceiveArgs) (t : typed 
   unfolding firstRecord nextRecord
   counted-parts none e = (sequence-lt m, first-links κ (w .allowed) m sender interface)
   counted-parts (some a) e =
-      let at = and-at (recordTests κ (s .time) (h .originator, a)) (lookup-all (λ x. and (recordTests κ (s .time) x)) (h .originator) a (s .records) (w .records .each) e) in (
-        advance-lt (κ .settings .window) (a .current) (sequenceOf m) (ltb-true (a .current) numbers (at 2)) (sequence-lt m),
-        next-links κ (w .allowed) m sender interface a (record { rise = rising-in (a .links) (at 5); best = at 7; each = at 8 }),
+      let p = lookup-all (λ x. and (recordTests κ (s .time) x)) (h .originator) a (s .records) (w .records .each) e in
+      let x : ℕ × TableRecord = (h .originator, a) in (
+        advance-lt (κ .settings .window) (a .current) (sequenceOf m) (record-current κ (s .time) x p) (sequence-lt m),
+        next-links κ (w .allowed) m sender interface a (record { rise = rising-in (a .links) (record-rises κ (s .time) x p); best = record-best κ (s .time) x p; each = record-each κ (s .time) x p }),
       )
 
   stamped : (x : Option TableRecord) → (maybe x (firstRecord κ m) (nextRecord κ m) .time ≡ r .time) × (maybe x (firstRecord κ m) (nextRecord κ m) .lastTtl ≡ h .ttl)
@@ -279,15 +273,15 @@ module _ (cells : ℕ) (s : TableState) (w : Wf s) (r : ReceiveArgs) (t : typed 
       let some-link : 1 ≤ length (a .links) = omega (arith, hasKey-length (a .best) (a .links) (x .1 .best), keep-length (λ (l : ℕ × ℕ). eqb (a .best) (l .0)) (a .links)) in
       held-put (λ z. and (recordTests κ (r .time) z)) (κ .settings .capacity) (h .originator) a (s .records) (records-later s w (r .time) not-before)
       (and-each {ts = recordTests κ (r .time) (h .originator, a)}
+      (also
+      (and-each {ts = fieldTests κ (r .time) (h .originator, a)}
       (also originator
+      (also (both (le-leb 1 (length (a .links)) some-link) (le-leb (length (a .links)) linkMost (links-most e)))
       (also not-own
       (also (lt-ltb (a .current) numbers (x .0))
       (also (le-leb (a .time) (r .time) (omega (arith, y .0)))
-      (also (ap isOctet (y .1) ∙ ttl)
-      (also (rising-out (a .links) (x .1 .rise))
-      (also (both (le-leb 1 (length (a .links)) some-link) (le-leb (length (a .links)) linkMost (links-most e)))
-      (also (x .1 .best)
-      (also (x .1 .each) end))))))))))
+      (also (ap isOctet (y .1) ∙ ttl) end)))))))
+      (also (and-each {ts = linksTests κ (a .best) (a .links)} (also (rising-out (a .links) (x .1 .rise)) (also (x .1 .each) (also (x .1 .best) end)))) end)))
       (record-room e)
     where
       not-own : not (isOwn κ (h .originator)) ≡ true
