@@ -1,6 +1,6 @@
 // An own packet on a well-formed table: what is refused of it, its number and its message.
 use packet_check::written_fault;
-use rules::TTL_LEAST;
+use rules::limits::TTL_LEAST;
 use table_layout::FIRST;
 use table_layout::INTERFACE;
 use table_layout::INTERFACES_FROM;

@@ -8,7 +8,7 @@ use packet_codec::output::pass_on;
 use rules::Ogm;
 use rules::Received;
 use rules::Route;
-use rules::TTL_LEAST;
+use rules::limits::TTL_LEAST;
 use rules::verdicts::KEPT;
 use rules::verdicts::PASSED_ON;
 use table_layout::TIME;

@@ -1,9 +1,7 @@
 // The plain structs that the calls take and answer. The definitions in specs/ see them as records, so rules and code share one type.
 
+pub mod limits;
 pub mod verdicts;
-
-// The least TTL of a packet that is passed on, and of an own packet.
-pub const TTL_LEAST: u8 = 2;
 
 // The settings of a table. They are wide, so that values that are not allowed can be given and refused.
 #[repr(C)]

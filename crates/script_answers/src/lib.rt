@@ -5,6 +5,7 @@ use rules::LinkRow;
 use rules::Received;
 use rules::Route;
 use rules::Written;
+use rules::limits::LINKS_MOST;
 use rules::verdicts::PASSED_ON;
 use script_text::put_line_end;
 use script_text::put_number;
@@ -12,7 +13,7 @@ use script_text::put_octets;
 use script_text::put_word;
 
 // The most rows that a list call fills.
-const LINKS_MOST: usize = 8;
+const ROWS_MOST: usize = LINKS_MOST as usize;
 
 // A word and a number.
 pub fn put_one(text: &mut [u8], used: usize, word: &[u8], number: u64) -> usize {
@@ -97,10 +98,10 @@ fn put_row(text: &mut [u8], used: usize, row: LinkRow) -> usize {
 }
 
 // The first `n` rows of the list call.
-pub fn put_rows(text: &mut [u8], used: usize, rows: [LinkRow; LINKS_MOST], n: usize) -> usize {
+pub fn put_rows(text: &mut [u8], used: usize, rows: [LinkRow; ROWS_MOST], n: usize) -> usize {
     let mut at = used;
     let mut i = 0;
-    while i < LINKS_MOST {
+    while i < ROWS_MOST {
         if i == n {
             break;
         }

@@ -1,5 +1,7 @@
 // The check of a whole table, which every call but make and packet check begins with.
 use cells::all_zero;
+use rules::limits::INTERFACES_MOST;
+use rules::limits::PAIRS;
 use table_layout::INTERFACE;
 use table_layout::INTERFACES_FROM;
 use table_layout::LAST;
@@ -14,14 +16,12 @@ use table_layout::TIME;
 use table_layout::TIMEOUT;
 use table_layout::USED;
 use table_layout::WINDOW;
-use table_record::INTERFACES;
-use table_record::NUMBERS;
-use table_record::PAIRS;
 use table_record::WIDTH;
 use table_record_check::Limits;
 use table_record_check::record_ok;
 use table_settings::head_ok;
 use table_settings::interfaces_ok;
+use window::NUMBERS;
 use window::distance;
 ghost use mathlib.Core.Path.{_≡_};
 ghost use mathlib.Core.Bool.{cond};
@@ -45,7 +45,7 @@ fn neighbour_ok(cells: &[u64], pair: u64, number: u64) -> bool
     if NUMBERS <= number {
         return false;
     }
-    let i = pair % INTERFACES;
+    let i = pair % INTERFACES_MOST;
     let at = INTERFACES_FROM + i as usize * INTERFACE;
     let last = cells[at + LAST];
     (pair < PAIRS)

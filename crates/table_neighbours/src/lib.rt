@@ -6,6 +6,8 @@ use cells_moves::clear;
 use cells_moves::move_down;
 use cells_moves::put_in;
 use cells_moves::write;
+use rules::limits::INTERFACES_MOST;
+use rules::limits::NEIGHBOURS_MOST;
 use window::NUMBERS;
 use window::distance;
 ghost use mathlib.Core.Path.{_≡_};
@@ -14,16 +16,14 @@ ghost use lib.ListN.{length};
 ghost use Rattle.lists.specs.Lists.{keep, all};
 ghost use Rattle.lists.specs.Keyed.{hasKey};
 ghost use Rattle.cells.specs.Pairs.{pairArea, pairsOf};
+ghost use Rattle.window.specs.Window.{numbers};
 ghost use Rattle.rules.specs.Settings.{neighbourMost};
 ghost use Rattle.table_neighbours.specs.Neighbours.{RowsHeld, EchoTaken, staysAfter};
 
 // The cells of a row: a link, and the number recorded for it. How many rows there is room for.
 const ROW: usize = PAIR;
 
-const ROOM: usize = 32;
-
-// A link is the pair address * 4 + interface.
-const INTERFACES: u64 = 4;
+const ROOM: usize = NEIGHBOURS_MOST as usize;
 
 // How many rows are held after an echo, or that there is no room for one more.
 pub enum Echo {
@@ -67,10 +67,10 @@ pub fn record_echo(rows: &mut [u64], n: usize, link: u64, number: u64) -> Echo
 
 // Whether a row stays when an interface has sent the number `last`.
 fn stays(link: u64, number: u64, interface: u64, last: u16, timeout: u64) -> bool
-    requires { ⌜ number < 65536 ⌝ }
+    requires { ⌜ number < numbers ⌝ }
     ensures { λ r. ⌜ r ≡ staysAfter interface last timeout (link, number) ⌝ }
 {
-    (link % INTERFACES != interface) | (distance(last, (number % NUMBERS) as u16) < timeout)
+    (link % INTERFACES_MOST != interface) | (distance(last, (number % NUMBERS) as u16) < timeout)
 }
 
 // Whether every row stays, as they nearly always do.

@@ -1,15 +1,20 @@
 // Settings and interface rows: what make is given, and what the cells hold of them.
 use cells::all_zero;
 use rules::Settings;
+use rules::limits::ADDRESSES;
+use rules::limits::CAPACITY_MOST;
+use rules::limits::INTERFACES_MOST;
+use rules::limits::NEIGHBOURS_MOST;
+use rules::limits::PURGE_MOST;
+use rules::limits::TIMEOUT_MOST;
+use rules::limits::VERSION_MOST;
+use rules::limits::WINDOW_MOST;
 use table_layout::BROADCAST;
 use table_layout::CAPACITY;
-use table_layout::CAPACITY_MOST;
 use table_layout::FIRST;
 use table_layout::INTERFACE;
-use table_layout::INTERFACE_MOST;
 use table_layout::INTERFACES_FROM;
 use table_layout::LAST;
-use table_layout::NEIGHBOUR_MOST;
 use table_layout::NEIGHBOURS_FROM;
 use table_layout::OWN;
 use table_layout::OWN_0;
@@ -17,21 +22,16 @@ use table_layout::OWN_1;
 use table_layout::OWN_2;
 use table_layout::OWN_3;
 use table_layout::PURGE;
-use table_layout::PURGE_MOST;
 use table_layout::RECORDS;
 use table_layout::RECORDS_FROM;
 use table_layout::ROWS;
 use table_layout::SENT;
 use table_layout::TIMEOUT;
-use table_layout::TIMEOUT_MOST;
 use table_layout::USED;
 use table_layout::VERSION;
-use table_layout::VERSION_MOST;
 use table_layout::WINDOW;
-use table_layout::WINDOW_MOST;
-use table_record::ADDRESSES;
-use table_record::NUMBERS;
 use table_record::WIDTH;
+use window::NUMBERS;
 ghost use mathlib.Core.Path.{_≡_};
 ghost use mathlib.Core.Bool.{_&&_};
 ghost use mathlib.Core.List.{[], _∷_};
@@ -39,8 +39,9 @@ ghost use Prim.Native.Nat.{_*_, _≤_};
 ghost use lib.ListN.{length, take, drop};
 ghost use Rattle.lists.specs.Lists.{all};
 ghost use Rattle.cells.specs.Area.{allZero, rowsOf};
-ghost use Rattle.rules.specs.Settings.{differ, interfaceMost, interfaceCells};
-ghost use Rattle.table_settings.specs.Check.{settingsOk, headOk, interfaceRowOk, interfacesOk};
+ghost use Rattle.rules.specs.Settings.{settingsOk, differ, interfaceMost, headCells, interfaceCells};
+ghost use Rattle.table_layout.specs.Cells.{settingsIn};
+ghost use Rattle.table_settings.specs.Check.{headOk, interfaceRowOk, interfacesOk};
 ghost use Rattle.table_layout.specs.Facts.{Sized};
 
 // Whether the settings are allowed.
@@ -48,10 +49,10 @@ pub fn settings_ok(s: Settings) -> bool
     ensures { λ r. ⌜ r ≡ settingsOk s ⌝ }
 {
     (s.version <= VERSION_MOST)
-        & (((1 <= s.window) & (s.window <= WINDOW_MOST))
-            & (((1 <= s.timeout) & (s.timeout <= TIMEOUT_MOST))
-                & (((1 <= s.purge) & (s.purge <= PURGE_MOST))
-                    & ((1 <= s.capacity) & (s.capacity <= CAPACITY_MOST)))))
+        & ((1 <= s.window) & (s.window <= WINDOW_MOST))
+        & ((1 <= s.timeout) & (s.timeout <= TIMEOUT_MOST))
+        & ((1 <= s.purge) & (s.purge <= PURGE_MOST))
+        & ((1 <= s.capacity) & (s.capacity <= CAPACITY_MOST))
 }
 
 // Whether the first `used` of four addresses differ.
@@ -63,6 +64,20 @@ pub fn own_differ(a: u64, b: u64, c: u64, d: u64, used: u64) -> bool
         & (((used < 3) | ((a != c) & (b != c))) & ((used < 4) | ((a != d) & ((b != d) & (c != d)))))
 }
 
+// The settings that the cells hold.
+pub fn settings_in(cells: &[u64]) -> Settings
+    requires { ⌜ headCells ≤ length (now cells) ⌝ }
+    ensures { λ r. ⌜ r ≡ settingsIn (now (cells .entry)) ⌝ }
+{
+    Settings {
+        version: cells[VERSION],
+        window: cells[WINDOW],
+        timeout: cells[TIMEOUT],
+        purge: cells[PURGE],
+        capacity: cells[CAPACITY],
+    }
+}
+
 // Whether the head is allowed, and the cells are as many as the capacity needs.
 pub fn head_ok(cells: &[u64]) -> bool
     ensures { λ r. ⌜ r ≡ headOk (now (cells .entry)) ⌝ }
@@ -70,18 +85,12 @@ pub fn head_ok(cells: &[u64]) -> bool
     if cells.len() < RECORDS_FROM {
         return false;
     }
-    let s = Settings {
-        version: cells[VERSION],
-        window: cells[WINDOW],
-        timeout: cells[TIMEOUT],
-        purge: cells[PURGE],
-        capacity: cells[CAPACITY],
-    };
+    let s = settings_in(cells);
     if !settings_ok(s) {
         return false;
     }
-    ((1 <= cells[USED]) & (cells[USED] <= INTERFACE_MOST))
-        & ((cells[ROWS] <= NEIGHBOUR_MOST)
+    ((1 <= cells[USED]) & (cells[USED] <= INTERFACES_MOST))
+        & ((cells[ROWS] <= NEIGHBOURS_MOST)
             & ((cells[RECORDS] <= s.capacity)
                 & (cells.len() == RECORDS_FROM + s.capacity as usize * WIDTH)))
 }
@@ -94,9 +103,11 @@ fn interface_row_ok(row: &[u64]) -> bool
     let sent = row[SENT];
     let last = row[LAST];
     (row[OWN] < ADDRESSES)
-        & ((row[BROADCAST] < ADDRESSES)
-            & ((row[FIRST] < NUMBERS)
-                & ((sent <= 1) & ((last < NUMBERS) & ((sent == 1) | (last == 0))))))
+        & (row[BROADCAST] < ADDRESSES)
+        & (row[FIRST] < NUMBERS)
+        & (sent <= 1)
+        & (last < NUMBERS)
+        & ((sent == 1) | (last == 0))
 }
 
 // Whether the rows of the interfaces in use are in their ranges, and the others zero.

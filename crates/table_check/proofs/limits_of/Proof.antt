@@ -2,6 +2,7 @@ use borrow.Author.Needs.{needs}
 use mathlib.Core.Path.{refl}
 use mathlib.Core.List.{[], _∷_}
 use lib.ListN.{getD}
+use Rattle.table_layout.specs.Layout.{ownPlace}
 use Rattle.table_check.proofs.Limits.{describes}
 use Rattle.table_check.proofs.limits_of.Statement.{statement}
 use Rattle.table_check.proofs.limits_of.Tie as tie
@@ -11,7 +12,7 @@ returns c =
     let s = c .before .before .before .before .before .before .before .before in
     let xs = s .args .cells .now in
     let k = s .pre in (
-      describes xs (k .used-least) (k .used-most) _ refl refl refl (λ i. getD xs 9 0 ∷ c .before .before .own-at .ensures i ∷ c .before .own-at2 .ensures i ∷ c .own-at3 .ensures i ∷ []),
+      describes xs (k .used-least) (k .used-most) _ refl refl refl (λ i. getD xs (ownPlace 0) 0 ∷ c .before .before .own-at .ensures i ∷ c .before .own-at2 .ensures i ∷ c .own-at3 .ensures i ∷ []),
       record { least = k .window-least; most = k .window-most },
     )
 

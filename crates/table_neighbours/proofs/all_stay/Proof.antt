@@ -11,6 +11,7 @@ use denote.Ref.{now}
 use Rattle.lists.specs.Lists.{all}
 use Rattle.lists.proofs.Tests.{and-left, and-right}
 use Rattle.cells.specs.Pairs.{pairCells, pairsOf}
+use Rattle.window.specs.Window.{numbers}
 use Rattle.rules.specs.Settings.{isNumber}
 use Rattle.table_neighbours.specs.Neighbours.{staysAfter}
 use Rattle.table_neighbours.proofs.Rows.{size, all-one, all-none}
@@ -34,7 +35,7 @@ stays-requires c κs =
     let o = c .before .before .before in
     let xs = o .before .before .args .rows .now in
     let more = c .before .before .loop-test .taken in
-    ltb-true (getD xs (o .loop .at + 1) 0) 65536 (and-left (isNumber (getD xs (o .loop .at + 1) 0)) _ (sym (all-one xs (o .loop .at) (o .loop .left) more (λ e. isNumber (e .1))) ∙ o .loop .inv .1))
+    ltb-true (getD xs (o .loop .at + 1) 0) numbers (and-left (isNumber (getD xs (o .loop .at + 1) 0)) _ (sym (all-one xs (o .loop .at) (o .loop .left) more (λ e. isNumber (e .1))) ∙ o .loop .inv .1))
 
 loop-again : tie.Need-loop-again Inv-loop μ-loop
 loop-again c =
