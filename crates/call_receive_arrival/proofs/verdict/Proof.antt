@@ -11,7 +11,8 @@ use Rattle.rules.specs.Rules.{withTime}
 use Rattle.rules.specs.Table.{TableState, table}
 use Rattle.table_layout.specs.Layout.{timeAt}
 use Rattle.table_layout.specs.Cells.{encode, decode}
-use Rattle.table_changes.proofs.Parts.{encoded-size, time-set}
+use Rattle.table_layout.proofs.Parts.{encoded-size}
+use Rattle.table_changes.proofs.Parts.{time-set}
 use Rattle.call_receive_arrival.specs.Receiving.{verdictOf, Ends}
 use Rattle.call_receive_arrival.proofs.Tables.{left-knows, left-decode}
 use borrow.Author.Needs.{needs}
