@@ -3,11 +3,12 @@ use mathlib.Core.Path.{_≡_, refl, sym, ap, _∙_}
 use mathlib.Core.List.{List, [], _∷_, _++_, map, append-assoc}
 use mathlib.Core.Bool.{Bool, true, false, cond, _&&_, not, and-true}
 use Prim.Native.Nat.{ℕ, zero, suc, _+_, _*_, _-_, _≤_, _<_}
+use native.Mathlib.Nat.{zero-add}
 use native.Mathlib.Omega.{arith}
-use lib.Dec.{leb, ltb, eqb}
-use lib.ListN.{length, take, drop, getD, length-append}
-use lib.Seq.{length-take-le}
-use borrow.Author.Tests.{leb-true, lt-ltb, eqb-true}
+use lib.Dec.{ltb, eqb}
+use lib.ListN.{length, take, drop, getD}
+use lib.Seq.{length-take-le, take-at, drop-append-add}
+use borrow.Author.Tests.{lt-ltb, eqb-true}
 use Rattle.lists.specs.Lists.{and, all}
 use Rattle.cells.specs.Area.{zeros, written}
 use Rattle.lists.proofs.Tests.{and-left, and-right, both, and-at}
@@ -17,17 +18,15 @@ use Rattle.window.specs.Window.{numbers}
 use Rattle.wire.specs.Check.{given}
 use Rattle.rules.specs.declared.Settings.{Settings}
 use Rattle.rules.specs.declared.Interface.{Interface}
-use Rattle.rules.specs.Settings.{MakeArgs, configOf, configTests, interfaceTests, allowed, makeTests, makeAllowed, cellsNeeded, tableHead, recordCells, interfaceMost, interfaceCells, capacityMost, within, differ, ownAddresses}
+use Rattle.rules.specs.Settings.{MakeArgs, configOf, interfaceTests, settingsOk, allowed, makeTests, makeAllowed, cellsNeeded, headCells, interfaceAreaCells, neighbourAreaCells, tableHead, recordCells, interfaceMost, interfaceCells, capacityMost, within, differ, ownAddresses}
 use Rattle.rules.specs.Calls.{make, answered, made, refusal}
 use Rattle.rules.specs.Rules.{OutcomeOf, unless, refuse, begin, fresh, step}
 use Rattle.rules.specs.Table.{table}
-use Rattle.rules.proofs.Config.{make-allowed}
-use Rattle.table_layout.specs.Layout.{neighboursFrom}
+use Rattle.rules.proofs.Config.{make-allowed, within-high, allowed-by, settings-allowed, own-differ}
 use Rattle.table_layout.specs.Interfaces.{rowsWith, encodeInterface}
-use Rattle.table_layout.specs.Cells.{headOf, interfaceArea, encode, decode}
-use Rattle.table_settings.specs.Check.{settingsTests, settingsOk}
+use Rattle.table_layout.specs.Cells.{encode, decode}
 use Rattle.table_layout.specs.Calls.{callOn}
-use Rattle.call_make.specs.Make.{makeArgs, freshHead, neededFor, noInterface}
+use Rattle.call_make.specs.Make.{makeArgs, freshHead, freshRows, neededFor, noInterface}
 use Rattle.table_layout.proofs.Interfaces.{interface-wide}
 use Rattle.table_layout.proofs.Calls.{goes-on, turned-away}
 
@@ -62,20 +61,15 @@ four-in-range e p q r t = ap (all (λ i. and (interfaceTests i))) e ∙ both p (
 -- ---- what make is allowed
 
 module _ (n : ℕ) (a : MakeArgs) where
-  configured : makeAllowed n a ≡ true → and (configTests (configOf a)) ≡ true
-  unfolding allowed
-  configured h = make-allowed n a h
-
   pub allowed-settings : makeAllowed n a ≡ true → settingsOk (a .settings) ≡ true
-  unfolding settingsOk
-  allowed-settings h = let t = and-at (configTests (configOf a)) (configured h) in both (t 0) (both (t 1) (both (t 2) (both (t 3) (both (t 4) refl))))
+  allowed-settings h = settings-allowed (configOf a) (make-allowed n a h)
 
   pub allowed-used : makeAllowed n a ≡ true → within 1 interfaceMost (a .used) ≡ true
   unfolding makeAllowed
   allowed-used h = and-at (makeTests n a) h 1
 
   pub allowed-differ : makeAllowed n a ≡ true → differ (ownAddresses (configOf a)) ≡ true
-  allowed-differ h = and-at (configTests (configOf a)) (configured h) 7
+  allowed-differ h = own-differ (configOf a) (make-allowed n a h)
 
   pub allowed-size : makeAllowed n a ≡ true → n ≡ tableHead + a .settings .capacity * recordCells
   unfolding makeAllowed cellsNeeded
@@ -84,14 +78,13 @@ module _ (n : ℕ) (a : MakeArgs) where
   -- with all else allowed, the number of cells decides
   pub size-decides : length (a .rows) ≡ interfaceMost → all (λ i. and (interfaceTests i)) (a .rows) ≡ true → settingsOk (a .settings) ≡ true → within 1 interfaceMost (a .used) ≡ true
       → differ (ownAddresses (configOf a)) ≡ true → eqb n (tableHead + a .settings .capacity * recordCells) ≡ makeAllowed n a
-  unfolding makeAllowed allowed settingsOk cellsNeeded
+  unfolding makeAllowed cellsNeeded
   size-decides four ranges hs hu hd =
-      let t = and-at (settingsTests (a .settings)) hs in
       let used = a .used in
-      let m = leb-true used interfaceMost (and-right (leb 1 used) (leb used interfaceMost) hu) in
+      let m = within-high 1 interfaceMost used hu in
       let l : length (take used (a .rows)) ≡ used = length-take-le used (a .rows) (omega arith) in
       let rows : all (λ i. and (interfaceTests i)) (take used (a .rows)) ≡ true = all-take used (a .rows) ranges in
-      let κ : and (configTests (configOf a)) ≡ true = both (t 0) (both (t 1) (both (t 2) (both (t 3) (both (t 4) (both (ap (within 1 interfaceMost) l ∙ hu) (both rows (both hd refl))))))) in
+      let κ : allowed (configOf a) ≡ true = allowed-by (configOf a) hs (ap (within 1 interfaceMost) l ∙ hu) rows hd in
       λ i. sym κ i && (sym hu i && sym (and-true (eqb n (tableHead + a .settings .capacity * recordCells))) i)
     where
       all-take : (k : ℕ) (l : List Interface) → all (λ i. and (interfaceTests i)) l ≡ true → all (λ i. and (interfaceTests i)) (take k l) ≡ true
@@ -105,45 +98,48 @@ own-four σ rows used a b c d e = ap (λ (l : List Interface). take used (map (�
 
 -- ---- the cells of a fresh table
 
-abbrev pub rowCells : Interface → List ℕ
+abbrev rowCells : Interface → List ℕ
 rowCells i = i .own ∷ i .broadcast ∷ i .first ∷ 0 ∷ 0 ∷ []
 
-used-rows : (σ : Settings) (n : ℕ) → 1 ≤ n → n ≤ interfaceMost → (a b c d : Interface)
-    → interfaceArea (fresh table (configOf (makeArgs σ (a ∷ b ∷ c ∷ d ∷ []) n))) ≡ rowCells a ++ (rowCells (cond (ltb 1 n) b noInterface) ++ (rowCells (cond (ltb 2 n) c noInterface) ++ rowCells (cond (ltb 3 n) d noInterface)))
+used-rows : (n : ℕ) → 1 ≤ n → n ≤ interfaceMost → (a b c d : Interface)
+    → rowCells a ++ (rowCells (cond (ltb 1 n) b noInterface) ++ (rowCells (cond (ltb 2 n) c noInterface) ++ rowCells (cond (ltb 3 n) d noInterface))) ≡ freshRows (a ∷ b ∷ c ∷ d ∷ []) n
 unfolding encodeInterface
-used-rows σ zero l h a b c d = absurd (omega arith)
-used-rows σ (suc zero) l h a b c d = refl
-used-rows σ (suc (suc zero)) l h a b c d = refl
-used-rows σ (suc (suc (suc zero))) l h a b c d = refl
-used-rows σ (suc (suc (suc (suc zero)))) l h a b c d = refl
-used-rows σ (suc (suc (suc (suc (suc n))))) l h a b c d = absurd (omega arith)
+used-rows zero l h a b c d = absurd (omega arith)
+used-rows (suc zero) l h a b c d = refl
+used-rows (suc (suc zero)) l h a b c d = refl
+used-rows (suc (suc (suc zero))) l h a b c d = refl
+used-rows (suc (suc (suc (suc zero)))) l h a b c d = refl
+used-rows (suc (suc (suc (suc (suc n))))) l h a b c d = absurd (omega arith)
 
-pub head-is : (σ : Settings) (rows : List Interface) (n : ℕ) → 1 ≤ n → n ≤ interfaceMost → {a b c d : Interface} → rows ≡ a ∷ b ∷ c ∷ d ∷ []
+pub rows-are : (rows : List Interface) (n : ℕ) → 1 ≤ n → n ≤ interfaceMost → {a b c d : Interface} → rows ≡ a ∷ b ∷ c ∷ d ∷ []
     → (x y z : Interface) → x ≡ cond (ltb 1 n) b noInterface → y ≡ cond (ltb 2 n) c noInterface → z ≡ cond (ltb 3 n) d noInterface
-    → σ .version ∷ σ .window ∷ σ .timeout ∷ σ .purge ∷ σ .capacity ∷ n ∷ 0 ∷ 0 ∷ 0 ∷ (rowCells a ++ (rowCells x ++ (rowCells y ++ rowCells z))) ≡ freshHead (makeArgs σ rows n)
-head-is σ rows n l h {a} {b} {c} {d} e x y z ex ey ez =
-    let k : length (take n rows) ≡ n = length-take-le n rows (rw e (omega arith)) in
-    let r : interfaceArea (fresh table (configOf (makeArgs σ rows n))) ≡ rowCells a ++ (rowCells (cond (ltb 1 n) b noInterface) ++ (rowCells (cond (ltb 2 n) c noInterface) ++ rowCells (cond (ltb 3 n) d noInterface))) =
-    ap (λ (x : List Interface). interfaceArea (fresh table (configOf (makeArgs σ x n)))) e ∙ used-rows σ n l h a b c d in
-    let q : rowCells a ++ (rowCells x ++ (rowCells y ++ rowCells z)) ≡ interfaceArea (fresh table (configOf (makeArgs σ rows n))) = (λ i. rowCells a ++ (rowCells (ex i) ++ (rowCells (ey i) ++ rowCells (ez i)))) ∙ sym r in
-    λ i. σ .version ∷ σ .window ∷ σ .timeout ∷ σ .purge ∷ σ .capacity ∷ sym k i ∷ 0 ∷ 0 ∷ 0 ∷ q i
+    → rowCells a ++ (rowCells x ++ (rowCells y ++ rowCells z)) ≡ freshRows rows n
+rows-are rows n l h {a} {b} {c} {d} e x y z ex ey ez =
+    (λ i. rowCells a ++ (rowCells (ex i) ++ (rowCells (ey i) ++ rowCells (ez i)))) ∙ used-rows n l h a b c d ∙ ap (λ (r : List Interface). freshRows r n) (sym e)
 
-pub length-fresh : (a : MakeArgs) (head : List ℕ) → head ≡ freshHead a → length head ≡ neighboursFrom
-length-fresh a head e =
-    let s = fresh table (configOf a) in
-    ap length e ∙ length-append (headOf s) (interfaceArea s) ∙ ap (λ (k : ℕ). 9 + k) (length-area encodeInterface interfaceCells interface-wide interfaceMost (rowsWith [] 0 (s .config .interfaces)))
+pub length-fresh : (rows : List Interface) (n : ℕ) → length (freshRows rows n) ≡ interfaceAreaCells
+length-fresh rows n = length-area encodeInterface interfaceCells interface-wide interfaceMost (rowsWith [] 0 (take n rows))
 
--- zeros, and the head written over them
-pub fresh-cells : (n : ℕ) (a : MakeArgs) (x y head : List ℕ) → makeAllowed n a ≡ true → x ≡ zeros n → head ≡ freshHead a → y ≡ written x 0 head → y ≡ encode (fresh table (configOf a))
+-- zeros, with h written over the first of them and f behind it
+two-written : (n : ℕ) (h f : List ℕ) → written (written (zeros n) 0 h) (length h) f ≡ h ++ (f ++ zeros (n - length h - length f))
+two-written n h f =
+    let m = n - length h in
+    let y : written (zeros n) 0 h ≡ h ++ zeros m = ap (λ (k : ℕ). h ++ drop k (zeros n)) (zero-add (length h)) ∙ ap (λ (l : List ℕ). h ++ l) (drop-zeros (length h) n) in
+    let d : drop (length h + length f) (h ++ zeros m) ≡ zeros (m - length f) = drop-append-add h (zeros m) (length f) ∙ drop-zeros (length f) m in
+    ap (λ (c : List ℕ). written c (length h) f) y ∙ (λ i. take-at h (zeros m) (length h) refl i ++ f ++ d i) ∙ append-assoc h f (zeros (m - length f))
+
+-- zeros, the head and the interface rows written over them
+pub fresh-cells : (n : ℕ) (a : MakeArgs) → length (a .rows) ≡ interfaceMost → makeAllowed n a ≡ true → (x y z head rows : List ℕ) → x ≡ zeros n
+    → head ≡ freshHead (a .settings) (a .used) → rows ≡ freshRows (a .rows) (a .used) → y ≡ written x 0 head → z ≡ written y headCells rows → z ≡ encode (fresh table (configOf a))
 unfolding encode
-fresh-cells n a x y head h ex eh ey =
-    let s = fresh table (configOf a) in
+fresh-cells n a four h x y z head rows ex eh er ey ez =
     let k = a .settings .capacity * recordCells in
-    let en = allowed-size n a h in
-    let el = length-fresh a head eh in
-    let m : n - (0 + length head) ≡ 64 + k = omega arith in
-    let z : drop (0 + length head) x ≡ zeros 64 ++ zeros k = ap (drop (0 + length head)) ex ∙ drop-zeros (0 + length head) n ∙ ap zeros m ∙ sym (zeros-append 64 k) in
-    ey ∙ (λ i. eh i ++ z i) ∙ append-assoc (headOf s) (interfaceArea s) (zeros 64 ++ zeros k)
+    let l = length-fresh (a .rows) (a .used) in
+    let m : n - headCells - length (freshRows (a .rows) (a .used)) ≡ neighbourAreaCells + k = omega (arith, allowed-size n a h) in
+    let used : a .used ≡ length (take (a .used) (a .rows)) = sym (length-take-le (a .used) (a .rows) (omega (arith, within-high 1 interfaceMost (a .used) (allowed-used n a h)))) in
+    ez ∙ (λ i. written (ey i) headCells (er i)) ∙ (λ i. written (written (ex i) 0 (eh i)) headCells (freshRows (a .rows) (a .used)))
+    ∙ two-written n (freshHead (a .settings) (a .used)) (freshRows (a .rows) (a .used))
+    ∙ (λ i. freshHead (a .settings) (used i) ++ (freshRows (a .rows) (a .used) ++ (ap zeros m ∙ sym (zeros-append neighbourAreaCells k)) i))
 
 -- ---- the rules
 

@@ -1,13 +1,14 @@
 -- Making a table.
-use mathlib.Core.List.{List, _++_}
+use mathlib.Core.List.{List, [], _∷_, _++_}
 use mathlib.Core.Bool.{cond}
 use Prim.Native.Nat.{ℕ}
+use lib.ListN.{take}
+use Rattle.cells.specs.Area.{area}
 use Rattle.rules.specs.declared.Settings.{Settings}
 use Rattle.rules.specs.declared.Interface.{Interface}
-use Rattle.rules.specs.Settings.{MakeArgs, configOf, capacityMost, within, cellsNeeded}
-use Rattle.rules.specs.Rules.{fresh}
-use Rattle.rules.specs.Table.{table}
-use Rattle.table_layout.specs.Cells.{headOf, interfaceArea}
+use Rattle.rules.specs.Settings.{MakeArgs, capacityMost, interfaceMost, interfaceCells, within, cellsNeeded}
+use Rattle.table_layout.specs.Interfaces.{rowsWith, encodeInterface}
+use Rattle.table_layout.specs.Cells.{settingsRow}
 
 -- what make is given
 abbrev pub makeArgs : Settings → List Interface → (used : ℕ) → MakeArgs
@@ -17,9 +18,13 @@ makeArgs σ rows used = record { settings = σ; rows = rows; used = used }
 unfoldable pub neededFor : (capacity : ℕ) → ℕ
 neededFor capacity = cond (within 1 capacityMost capacity) (cellsNeeded capacity) 0
 
--- the cells of a fresh table up to the neighbour rows
-abbrev pub freshHead : MakeArgs → List ℕ
-freshHead a = headOf (fresh table (configOf a)) ++ interfaceArea (fresh table (configOf a))
+-- the cells of a fresh table's head: time, neighbour rows held and originators held are 0
+abbrev pub freshHead : Settings → (used : ℕ) → List ℕ
+freshHead σ used = settingsRow σ ++ (used ∷ 0 ∷ 0 ∷ 0 ∷ [])
+
+-- the cells of its interface rows: none has sent
+abbrev pub freshRows : List Interface → (used : ℕ) → List ℕ
+freshRows rows used = area encodeInterface interfaceCells interfaceMost (rowsWith [] 0 (take used rows))
 
 abbrev pub noInterface : Interface
 noInterface = record { own = 0; broadcast = 0; first = 0 }

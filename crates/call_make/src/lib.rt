@@ -5,6 +5,9 @@ use rules::Interface;
 use rules::Settings;
 use rules::limits::CAPACITY_MOST;
 use rules::limits::INTERFACES_MOST;
+use table_layout::HEAD;
+use table_layout::INTERFACE_AREA;
+use table_layout::INTERFACES_FROM;
 use table_layout::RECORDS_FROM;
 use table_record::WIDTH;
 use table_settings::own_differ;
@@ -16,7 +19,7 @@ ghost use Prim.Native.Nat.{_≤_};
 ghost use Rattle.rules.specs.Settings.{makeAllowed, interfaceMost};
 ghost use Rattle.rules.specs.Calls.{answered, made, make};
 ghost use Rattle.table_layout.specs.Calls.{callOn};
-ghost use Rattle.call_make.specs.Make.{makeArgs, neededFor, freshHead, noInterface};
+ghost use Rattle.call_make.specs.Make.{makeArgs, neededFor, freshHead, freshRows, noInterface};
 
 // How many cells a capacity needs; 0 for one that is not allowed.
 pub fn cells_needed(capacity: u64) -> u64
@@ -62,15 +65,10 @@ fn kept(row: Interface, in_use: bool) -> Interface
     }
 }
 
-// The cells of a fresh table before the neighbour rows.
-fn fresh_head(settings: Settings, rows: [Interface; 4], used: u64) -> [u64; 29]
-    requires { ⌜ (1 ≤ used) × (used ≤ interfaceMost) ⌝ }
-    ensures { λ r. ⌜ r ≡ freshHead (makeArgs settings rows used) ⌝ }
+// The cells of a fresh table's head.
+fn fresh_head(settings: Settings, used: u64) -> [u64; HEAD]
+    ensures { λ r. ⌜ r ≡ freshHead settings used ⌝ }
 {
-    let a = rows[0];
-    let b = kept(rows[1], 1 < used);
-    let c = kept(rows[2], 2 < used);
-    let d = kept(rows[3], 3 < used);
     [
         settings.version,
         settings.window,
@@ -81,6 +79,19 @@ fn fresh_head(settings: Settings, rows: [Interface; 4], used: u64) -> [u64; 29]
         0,
         0,
         0,
+    ]
+}
+
+// The cells of its interface rows, none of which has sent.
+fn fresh_rows(rows: [Interface; 4], used: u64) -> [u64; INTERFACE_AREA]
+    requires { ⌜ (1 ≤ used) × (used ≤ interfaceMost) ⌝ }
+    ensures { λ r. ⌜ r ≡ freshRows rows used ⌝ }
+{
+    let a = rows[0];
+    let b = kept(rows[1], 1 < used);
+    let c = kept(rows[2], 2 < used);
+    let d = kept(rows[3], 3 < used);
+    [
         a.own as u64,
         a.broadcast as u64,
         a.first as u64,
@@ -111,8 +122,10 @@ pub fn make(cells: &mut [u64], settings: Settings, rows: [Interface; 4], used: u
     if !make_allowed(cells.len(), settings, rows, used) {
         return NOT_ALLOWED;
     }
-    let head = fresh_head(settings, rows, used);
+    let head = fresh_head(settings, used);
+    let interfaces = fresh_rows(rows, used);
     clear(cells);
     write(cells, 0, &head);
+    write(cells, INTERFACES_FROM, &interfaces);
     0
 }

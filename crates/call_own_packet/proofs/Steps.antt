@@ -32,7 +32,8 @@ use Rattle.table_layout.specs.Cells.{encode, decode}
 use Rattle.table_layout.specs.Facts.{Knows}
 use Rattle.table_changes.specs.Changes.{withTime, withSends, withRows}
 use Rattle.table_changes.proofs.Values.{used-read}
-use Rattle.table_changes.proofs.Parts.{encoded-size, time-set, rows-lent, rows-back}
+use Rattle.table_layout.proofs.Parts.{encoded-size, rows-lent}
+use Rattle.table_changes.proofs.Parts.{time-set, rows-back}
 use Rattle.table_changes.proofs.Sent.{interface-back}
 use Rattle.table_neighbours.specs.Neighbours.{RowsHeld, staysAfter}
 use Rattle.call_own_packet_checks.specs.OwnPacket.{args, headerFrom}

@@ -14,7 +14,7 @@ use Rattle.rules.proofs.WellFormed.{Wf, parts}
 use Rattle.table_layout.specs.Layout.{rowsAt, neighboursFrom}
 use Rattle.table_layout.specs.Cells.{decode}
 use Rattle.table_layout.specs.Facts.{Knows}
-use Rattle.table_changes.proofs.Parts.{rows-lent}
+use Rattle.table_layout.proofs.Parts.{rows-lent}
 use Rattle.table_neighbours.specs.Neighbours.{RowsHeld}
 
 -- the rows as they are lent

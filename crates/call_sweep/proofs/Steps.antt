@@ -22,7 +22,8 @@ use Rattle.table_layout.specs.Cells.{recordArea, encode, decode}
 use Rattle.table_layout.specs.Facts.{Knows}
 use Rattle.table_changes.specs.Changes.{withTime, withRecords}
 use Rattle.table_changes.proofs.Values.{time-read}
-use Rattle.table_changes.proofs.Parts.{time-set, records-lent, records-back}
+use Rattle.table_layout.proofs.Parts.{records-lent}
+use Rattle.table_changes.proofs.Parts.{time-set, records-back}
 use Rattle.call_sweep.specs.Sweeping.{recordsOf, RecordsHeld, isRecent, Kept, SweptBy}
 use Rattle.call_sweep.proofs.Records.{length-records}
 

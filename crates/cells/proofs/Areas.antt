@@ -7,7 +7,12 @@ use native.Mathlib.Omega.{arith}
 use lib.ListN.{length, take, drop, set, getD, length-append, length-drop}
 use lib.Seq.{take-append-add, drop-append-add, length-take-le, set-split, drop-cons, take-at, drop-at}
 use Rattle.lists.proofs.Lists.{map-append}
-use Rattle.cells.specs.Area.{fit, zeros, flat, area, insertAt, removeAt, written, putIn, takenOut}
+use Rattle.cells.specs.Area.{fit, zeros, flat, area, insertAt, written, putIn}
+
+-- ---- a list with one more element
+
+pub length-insert : {A : Type 0} (i : ℕ) (a : A) (l : List A) → i ≤ length l → length (insertAt i a l) ≡ length l + 1
+length-insert i a l h = omega (arith, length-append (take i l) (a ∷ drop i l), length-take-le i l h, length-drop i l)
 
 -- ---- cut or filled up to a length
 
@@ -160,12 +165,6 @@ module _ {A : Type 0} (f : A → List ℕ) (w : ℕ) (wide : (a : A) → length 
         rw (length-area n l, take-area i h, drop-area i h, rows-append (take i l) (a ∷ drop i l))
         (fit-in (n * w) (flat (map f (take i l)) ++ f a) (n * w - i * w) (flat (map f (drop i l))) (short i h)
         ∙ ap (fit (n * w)) (append-assoc (flat (map f (take i l))) (f a) (flat (map f (drop i l)))))
-
-    -- a row taken out
-    pub take-row : (i : ℕ) → i < length l → takenOut (area f w n l) (i * w) w ≡ area f w n (removeAt i l)
-    take-row i h =
-        rw (length-area n l, next i, take-area i (omega arith), drop-area (suc i) h, rows-append (take i l) (drop (suc i) l))
-        (fit-in (n * w) (flat (map f (take i l))) (n * w - suc i * w) (flat (map f (drop (suc i) l))) (short (suc i) h))
 
     -- a row written over
     pub write-row : (i : ℕ) (a : A) → i < length l → written (area f w n l) (i * w) (f a) ≡ area f w n (set l i a)

@@ -10,7 +10,7 @@ use lib.Bits.{bitOr, or-zero-l, or-add-and, and-le-r}
 use lib.Dec.{leb, ltb, eqb}
 use lib.ListN.{length, take, drop, getD}
 use lib.Seq.{drop-cons, getD-drop, getD-take, drop-drop, drop-length}
-use borrow.Author.Tests.{le-leb, lt-leb, leb-true, ne-eqb}
+use borrow.Author.Tests.{le-leb, leb-true, ne-eqb}
 use Rattle.lists.specs.Lists.{all}
 use Rattle.lists.specs.Keyed.{rising}
 use Rattle.cells.specs.Area.{allZero, keyOf, rowsOf, column, riseFrom, rise, scan}
@@ -55,9 +55,6 @@ row-cell w c at j h = getD-take w (drop at c) j 0 h ∙ getD-drop at c j 0
 pub row-key : (w : ℕ) (c : List ℕ) (at : ℕ) → 0 < w → keyOf (take w (drop at c)) ≡ getD c at 0
 row-key w c at z = row-cell w c at 0 z ∙ ap (λ (k : ℕ). getD c k 0) (add-zero at)
 
-pub column-one : (w : ℕ) (c : List ℕ) (at left : ℕ) → 0 < w → 0 < left → column w left (drop at c) ≡ getD c at 0 ∷ column w (left - 1) (drop (at + w) c)
-column-one w c at left z h = ap (map keyOf) (rows-one w c at left h) ∙ ap (λ (k : ℕ). k ∷ column w (left - 1) (drop (at + w) c)) (row-key w c at z)
-
 pub length-column : (w n : ℕ) (c : List ℕ) → length (column w n c) ≡ n
 length-column w n c = length-decoded keyOf w n c
 
@@ -67,29 +64,6 @@ getD-column w (suc n) c zero z h = getD-take w c 0 0 z ∙ rw (zero-mul w)
 getD-column w (suc n) c (suc j) z h =
     let e : w + j * w ≡ suc j * w = rw (suc-mul j w) (omega arith) in
     getD-column w n (drop w c) j z (le-of-suc-le-suc h) ∙ getD-drop w c (j * w) 0 ∙ ap (λ (n : ℕ). getD c n 0) e
-
--- ---- keys that rise: the row at place `at` is passed, and `left` follow it
-
-abbrev pub rest : List ℕ → ℕ → ℕ → ℕ → Bool
-rest c w at left = riseFrom (getD c at 0 + 1) (column w left (drop (at + w) c))
-
-pub rise-start : (c : List ℕ) (w n : ℕ) → 0 < w → (n ≡ 0 → ⊥) → rest c w 0 (n - 1) ≡ rise (column w n c)
-rise-start c w n z h =
-    let e = column-one w c 0 n z (omega arith) in
-    sym (ap rise e ∙ ap (λ (b : Bool). b && rest c w 0 (n - 1)) (le-leb 0 (getD c 0 0) zero-le))
-
-module _ (c : List ℕ) (w at left : ℕ) (z : 0 < w) where
-  rise-one : 0 < left → rest c w at left ≡ leb (getD c at 0 + 1) (getD c (at + w) 0) && rest c w (at + w) (left - 1)
-  rise-one h = ap (riseFrom (getD c at 0 + 1)) (column-one w c (at + w) left z h)
-
-  pub rise-next : 0 < left → getD c at 0 < getD c (at + w) 0 → rest c w at left ≡ rest c w (at + w) (left - 1)
-  rise-next h k = rise-one h ∙ ap (λ (b : Bool). b && rest c w (at + w) (left - 1)) (le-leb (getD c at 0 + 1) (getD c (at + w) 0) (omega arith))
-
-  pub rise-stop : 0 < left → getD c (at + w) 0 ≤ getD c at 0 → rest c w at left ≡ false
-  rise-stop h k = rise-one h ∙ ap (λ (b : Bool). b && rest c w (at + w) (left - 1)) (lt-leb (getD c at 0 + 1) (getD c (at + w) 0) (omega arith))
-
-  pub rise-end : left ≤ 0 → rest c w at left ≡ true
-  rise-end h = ap (λ (l : List (List ℕ)). riseFrom (getD c at 0 + 1) (map keyOf l)) (rows-none w c (at + w) left h)
 
 -- ---- the rules say it of pairs: each key is below all that follow
 

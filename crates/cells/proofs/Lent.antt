@@ -1,13 +1,13 @@
 -- A part of the cells that is lent and comes back. Assumes nothing.
 use mathlib.Core.Path.{_≡_, sym, ap, _∙_}
-use mathlib.Core.List.{List, [], _∷_, _++_, append-assoc, append-nil}
+use mathlib.Core.List.{List, [], _∷_, _++_, append-nil}
 use Prim.Native.Nat.{ℕ, zero, suc, _+_, _-_, _≤_, _<_}
 use native.Mathlib.Nat.{add-zero, sub-zero, zero-sub, suc-sub-suc}
 use native.Mathlib.Omega.{arith}
 use lib.ListN.{length, take, drop, getD, length-drop}
 use lib.Seq.{getD-drop, getD-take, take-all, length-take-le, drop-drop, drop-length, drop-cons, take-nil}
 use borrow.Rule.Slice.PartMut.{putMid}
-use Rattle.cells.specs.Area.{written, cellsFrom}
+use Rattle.cells.specs.Area.{cellsFrom}
 
 -- from a, w cells
 module _ (c : List ℕ) (a w : ℕ) (within : a + w ≤ length c) where
@@ -25,11 +25,6 @@ module _ (c : List ℕ) (a w : ℕ) (within : a + w ≤ length c) where
 
   pub part-first : 0 < w → getD (take (a + w - a) (drop a c)) 0 0 ≡ getD c a 0
   part-first z = part-cell 0 z ∙ ap (λ (k : ℕ). getD c k 0) (add-zero a)
-
-  pub part-back : (ys : List ℕ) → length ys ≡ w → putMid a (a + w - a) c ys ≡ written c a ys
-  part-back ys e =
-      let d : drop (a + w - a) (drop a c) ≡ drop (a + length ys) c = drop-drop (a + w - a) a c ∙ ap (λ (k : ℕ). drop (a + k) c) (width ∙ sym e) in
-      ap (λ (l : List ℕ). take a c ++ (ys ++ l)) d ∙ sym (append-assoc (take a c) ys (drop (a + length ys) c))
 
 -- from a to the end
 pub tail-is : (c : List ℕ) (a : ℕ) → take (length c - a) (drop a c) ≡ drop a c

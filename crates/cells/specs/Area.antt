@@ -69,10 +69,6 @@ scan p low (r ∷ rs) = leb low (keyOf r) && p r && scan p (keyOf r + 1) rs
 abbrev pub insertAt : {A : Type 0} → (i : ℕ) → A → List A → List A
 insertAt i a l = take i l ++ a ∷ drop i l
 
--- the list without the element at place i
-abbrev pub removeAt : {A : Type 0} → (i : ℕ) → List A → List A
-removeAt i l = take i l ++ drop (suc i) l
-
 -- ---- changes of cells
 
 -- `row` over the cells from `at` on
@@ -86,7 +82,3 @@ movedUp c at w = fit (length c) (take (at + w) c ++ drop at c)
 -- `row` put in at `at`: what follows moves up, and what no longer fits falls off the end
 abbrev pub putIn : List ℕ → (at : ℕ) → List ℕ → List ℕ
 putIn c at row = fit (length c) (take at c ++ row ++ drop at c)
-
--- w cells taken out at `at`: what follows moves down, and zeros come in at the end
-abbrev pub takenOut : List ℕ → (at w : ℕ) → List ℕ
-takenOut c at w = fit (length c) (take at c ++ drop (at + w) c)

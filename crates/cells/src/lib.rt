@@ -1,9 +1,7 @@
 // Rows in lent cells, for any width: found and tested.
 // Nothing here knows what a row means; the contracts speak of lists of cells alone.
 ghost use mathlib.Core.Path.{_≡_};
-ghost use Prim.Native.Nat.{_*_, _≤_, _<_};
-ghost use lib.ListN.{length};
-ghost use Rattle.cells.specs.Area.{allZero, column, rise};
+ghost use Rattle.cells.specs.Area.{allZero, column};
 ghost use Rattle.cells.specs.Find.{Sorted, FoundIn};
 
 // How many cells a pair takes: a key and what stands under it.
@@ -36,27 +34,6 @@ pub fn find(cells: &[u64], w: usize, n: usize, key: u64) -> Found
         }
     }
     Found::Place(low)
-}
-
-// Whether the keys of the first n rows of w cells rise strictly.
-pub fn keys_rise(cells: &[u64], w: usize, n: usize) -> bool
-    requires { ⌜ (n * w ≤ length (now cells)) × (0 < w) ⌝ }
-    ensures { λ r. ⌜ r ≡ rise (column w n (now (cells .entry))) ⌝ }
-{
-    if n == 0 {
-        return true;
-    }
-    let mut at = 0;
-    let mut left = n - 1;
-    while 0 < left {
-        let next = at + w;
-        if cells[next] <= cells[at] {
-            break;
-        }
-        at = next;
-        left -= 1;
-    }
-    left == 0
 }
 
 // Whether every cell is zero. The bits of all are joined, with no early exit: unused cells nearly always are zero, and the loop is then done several

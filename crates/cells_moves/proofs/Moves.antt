@@ -5,12 +5,10 @@ use Prim.Native.Nat.{ℕ, suc, _+_, _-_, _≤_, _<_}
 use native.Mathlib.Nat.{sub-self, zero-add}
 use native.Mathlib.Omega.{arith}
 use native.Mathlib.Numerals.{add-one}
-use borrow.Rule.Slice.PartMut.{putMid}
 use lib.ListN.{length, take, drop, set, getD, take-append-drop, length-append, length-drop, List·getD-append}
-use lib.Seq.{take-suc, drop-cons, append-snoc, set-at, length-take-le, getD-take, getD-drop, take-length, take-at, drop-at, take-append-le, paste, paste-suc, length-paste-head, getD-append-add, take-all, take-add, take-take, drop-length}
-use Rattle.cells.specs.Area.{fit, zeros, written, movedUp, putIn, takenOut}
-use Rattle.cells.proofs.Areas.{fit-at, fit-zeros, length-fit, getD-fit}
-use Rattle.cells.proofs.Lent.{tail-length, tail-back}
+use lib.Seq.{take-suc, drop-cons, append-snoc, set-at, length-take-le, getD-take, getD-drop, take-length, drop-at, take-append-le, paste, paste-suc, length-paste-head, getD-append-add, take-all, take-add, take-take, drop-length}
+use Rattle.cells.specs.Area.{fit, zeros, written, movedUp, putIn}
+use Rattle.cells.proofs.Areas.{fit-at, length-fit, getD-fit}
 
 -- ---- a copy, turn by turn: `paste c at s j` has the first j cells of s over those of c from `at` on
 
@@ -117,18 +115,3 @@ put-done c row x y at h ex ey =
     let b : drop m x ≡ t = ap (drop m) e ∙ drop-at (take m c) t m lm in
     let n : length c ≡ length (take at c ++ row) + (length c - m) = rw (length-append (take at c) row, length-take-le at c (omega arith)) (omega arith) in
     ey ∙ (λ i. a i ++ row ++ b i) ∙ sym (fit-at (length c) (length c - m) (take at c ++ row) (drop at c) n)
-
--- moved down, then the last w cells cleared
-pub take-done : (c x ys : List ℕ) (at w : ℕ) → at + w ≤ length c → length x ≡ length c → x ≡ written c at (source c (at + w) (length c - w - at))
-    → ys ≡ zeros (length (take (length x - (length c - w)) (drop (length c - w) x))) → putMid (length c - w) (length x - (length c - w)) x ys ≡ takenOut c at w
-take-done c x ys at w h lx ex ey =
-    let end : ℕ = length c - w in
-    let s : List ℕ = drop (at + w) c in
-    let ls : length s ≡ length c - (at + w) = length-drop (at + w) c in
-    let lt : length (take at c) ≡ at = length-take-le at c (omega arith) in
-    let f : length (take at c ++ s) ≡ end = rw (length-append (take at c) s, lt, ls) (omega arith) in
-    let a : x ≡ take at c ++ s ++ drop (at + length s) c = ex ∙ ap (written c at) (take-all (end - at) s (omega arith)) in
-    let b : take end x ≡ take at c ++ s = ap (take end) a ∙ take-at (take at c ++ s) (drop (at + length s) c) end f in
-    let k : length (take (length x - end) (drop end x)) ≡ w = tail-length x end ∙ (omega arith) in
-    let z : ys ≡ zeros w = ey ∙ ap zeros k in
-    tail-back x end ys (omega arith) ∙ (λ i. b i ++ z i) ∙ sym (fit-zeros (length c) w (take at c ++ s) (omega arith))

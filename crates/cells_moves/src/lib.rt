@@ -1,9 +1,9 @@
-// Rows in lent cells, for any width: written, moved, put in, taken out, cleared.
+// Rows in lent cells, for any width: written, moved, put in, cleared.
 // Nothing here knows what a row means; the contracts speak of lists of cells alone.
 ghost use mathlib.Core.Path.{_≡_};
 ghost use Prim.Native.Nat.{_+_, _≤_};
 ghost use lib.ListN.{length, take, drop};
-ghost use Rattle.cells.specs.Area.{zeros, written, movedUp, putIn, takenOut};
+ghost use Rattle.cells.specs.Area.{zeros, written, movedUp, putIn};
 
 // Fills the cells with zeros.
 pub fn clear(cells: &mut [u64])
@@ -70,14 +70,4 @@ pub fn put_in(cells: &mut [u64], at: usize, row: &[u64])
 {
     move_up(cells, at, row.len());
     write(cells, at, row);
-}
-
-// Takes w cells out at `at`: what follows moves down, and zeros come in at the end.
-pub fn take_out(cells: &mut [u64], at: usize, w: usize)
-    requires { ⌜ at + w ≤ length (now cells) ⌝ }
-    ensures { λ _. ⌜ now (cells .exit) ≡ takenOut (now (cells .entry)) at w ⌝ }
-{
-    let end = cells.len() - w;
-    move_down(cells, at + w, at, end - at);
-    clear(&mut cells[end..]);
 }

@@ -112,14 +112,3 @@ module _ {A : Type 0} (k : ℕ) (v : A) (xs ys : List (ℕ × A)) (low : all (λ
   -- a new value
   pub put-new : put k v (xs ++ ys) ≡ xs ++ ((k, v) ∷ ys)
   put-new = ap₂ (λ (a b : List (ℕ × A)). a ++ ((k, v) ∷ b)) below above
-
-  -- a test that the key itself fails doesn't see what stands under it
-  unseen : (p : ℕ × A → Bool) (u : A) → p (k, u) ≡ false → keep p (xs ++ ((k, u) ∷ ys)) ≡ keep p (xs ++ ys)
-  unseen p u h =
-      keep-append p xs ((k, u) ∷ ys) ∙ ap (λ (t : Bool). keep p xs ++ cond t ((k, u) ∷ keep p ys) (keep p ys)) h ∙ sym (keep-append p xs ys)
-
-  -- in place of the one that stood there
-  pub put-old : (u : A) → put k v (xs ++ ((k, u) ∷ ys)) ≡ xs ++ ((k, v) ∷ ys)
-  put-old u =
-      let l : ltb k k ≡ false = le-ltb k k (omega arith) in
-      ap₂ (λ (a b : List (ℕ × A)). a ++ ((k, v) ∷ b)) (unseen (λ e. ltb (e .0) k) u l) (unseen (λ e. ltb k (e .0)) u l) ∙ put-new

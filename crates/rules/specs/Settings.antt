@@ -109,13 +109,22 @@ differ (x ∷ xs) = not (elem x xs) && differ xs
 abbrev pub interfaceTests : Interface → List Bool
 interfaceTests i = isAddress (i .own) ∷ isAddress (i .broadcast) ∷ isNumber (i .first) ∷ []
 
+-- the settings by themselves: make and the check of a table both ask this
+abbrev pub settingsTests : Settings → List Bool
+settingsTests σ =
+    within 0 versionMost (σ .version)
+    ∷ within 1 windowMost (σ .window)
+    ∷ within 1 timeoutMost (σ .timeout)
+    ∷ within 1 purgeMost (σ .purge)
+    ∷ within 1 capacityMost (σ .capacity)
+    ∷ []
+
+unfoldable pub settingsOk : Settings → Bool
+settingsOk σ = and (settingsTests σ)
+
 abbrev pub configTests : Config → List Bool
 configTests κ =
-    within 0 versionMost (κ .settings .version)
-    ∷ within 1 windowMost (κ .settings .window)
-    ∷ within 1 timeoutMost (κ .settings .timeout)
-    ∷ within 1 purgeMost (κ .settings .purge)
-    ∷ within 1 capacityMost (κ .settings .capacity)
+    settingsOk (κ .settings)
     ∷ within 1 interfaceMost (length (κ .interfaces))
     ∷ all (λ i. and (interfaceTests i)) (κ .interfaces)
     ∷ differ (ownAddresses κ)
@@ -137,9 +146,13 @@ pub record Bounded (p : Policy) : Type 0 where
 
 -- ---- cells, by the table's layout
 
--- the five settings, the number in use, the time, and how many neighbour rows and originators are held
+-- one for each setting
+abbrev pub settingCells : ℕ
+settingCells = 5
+
+-- the settings, the number in use, the time, and how many neighbour rows and originators are held
 abbrev pub headCells : ℕ
-headCells = 9
+headCells = settingCells + 4
 
 -- own address, broadcast address, first number, whether it has sent, last sent number
 abbrev pub interfaceCells : ℕ
@@ -157,11 +170,22 @@ recordHeadCells = 6
 abbrev pub linkCells : ℕ
 linkCells = 2
 
+-- areas have room for the most rows
+abbrev pub interfaceAreaCells : ℕ
+interfaceAreaCells = interfaceMost * interfaceCells
+
+abbrev pub neighbourAreaCells : ℕ
+neighbourAreaCells = neighbourMost * neighbourCells
+
+abbrev pub linkAreaCells : ℕ
+linkAreaCells = linkMost * linkCells
+
+-- all that stands before the records
 abbrev pub tableHead : ℕ
-tableHead = headCells + interfaceMost * interfaceCells + neighbourMost * neighbourCells
+tableHead = headCells + interfaceAreaCells + neighbourAreaCells
 
 abbrev pub recordCells : ℕ
-recordCells = recordHeadCells + linkMost * linkCells
+recordCells = recordHeadCells + linkAreaCells
 
 unfoldable pub cellsNeeded : (capacity : ℕ) → ℕ
 cellsNeeded capacity = tableHead + capacity * recordCells

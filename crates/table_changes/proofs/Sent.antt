@@ -17,12 +17,13 @@ use Rattle.rules.specs.Settings.{interfaceMost, interfaceCells, neighbourMost}
 use Rattle.rules.specs.Table.{TableState}
 use Rattle.cells.specs.Area.{area, written}
 use Rattle.cells.specs.Pairs.{pairArea}
-use Rattle.cells.proofs.Areas.{length-area, read-row, write-row}
+use Rattle.cells.proofs.Areas.{read-row, write-row}
 use Rattle.table_layout.specs.Layout.{sentAt, lastAt, ownPlace}
 use Rattle.table_layout.specs.Interfaces.{InterfaceRow, rowsWith, encodeInterface}
 use Rattle.table_layout.specs.Cells.{headOf, interfaceArea, recordArea, encode}
 use Rattle.table_changes.specs.Changes.{withSends}
-use Rattle.table_changes.proofs.Parts.{interface-wide}
+use Rattle.table_layout.proofs.Interfaces.{interface-wide, length-with}
+use Rattle.table_layout.proofs.Parts.{wide-interfaces}
 
 abbrev pub none-sent : InterfaceRow
 none-sent = (record { own = 0; broadcast = 0; first = 0 }, none)
@@ -43,10 +44,6 @@ rows-sent ns n (suc i) j (x ∷ xs) d h =
     let e : j + 1 + i ≡ j + suc i = omega arith in
     ap₂ (λ (o : Option ℕ) (l : List InterfaceRow). (x, o) ∷ l) (sym (lookup-put-other j (j + suc i) n ns (ne-eqb j (j + suc i) (omega arith))))
     (rows-sent ns n i (j + 1) xs d (le-of-suc-le-suc h) ∙ ap (λ (k : ℕ). rowsWith (put k n ns) (j + 1) xs) e)
-
-pub length-rowsWith : (ns : Sends) (j : ℕ) (xs : List Interface) → length (rowsWith ns j xs) ≡ length xs
-length-rowsWith ns j [] = refl
-length-rowsWith ns j (x ∷ xs) = ap suc (length-rowsWith ns (j + 1) xs)
 
 -- ---- a run of cells f between h and t, and w cells of it from k on
 
@@ -78,17 +75,14 @@ module _ (s : TableState) (i n : ℕ) (used : i < length (s .config .interfaces)
 
   there : i < length rows
   unfolding rows
-  there = omega (arith, length-rowsWith (s .sends) 0 (s .config .interfaces))
+  there = omega (arith, length-with (s .sends) 0 (s .config .interfaces))
 
   room : length rows ≤ interfaceMost
   unfolding rows
-  room = omega (arith, length-rowsWith (s .sends) 0 (s .config .interfaces))
-
-  size : length (interfaceArea s) ≡ 20
-  size = length-area encodeInterface interfaceCells interface-wide interfaceMost (rowsWith (s .sends) 0 (s .config .interfaces))
+  room = omega (arith, length-with (s .sends) 0 (s .config .interfaces))
 
   within : i * interfaceCells + interfaceCells ≤ length (interfaceArea s)
-  within = omega (arith, size)
+  within = omega (arith, wide-interfaces s)
 
   pub interface-lent : take interfaceCells (drop (ownPlace i) (encode s)) ≡ encodeInterface (getD (rowsWith (s .sends) 0 (s .config .interfaces)) i none-sent)
   unfolding encode rows

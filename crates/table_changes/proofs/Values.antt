@@ -4,17 +4,17 @@ use mathlib.Core.List.{List, [], _∷_}
 use Prim.Native.Nat.{ℕ, zero, suc, _+_, _≤_, _<_}
 use native.Mathlib.Nat.{zero-add, add-zero, not-suc-le-zero, le-of-suc-le-suc}
 use native.Mathlib.Omega.{arith}
-use lib.ListN.{length, take, drop, getD, length-map}
+use lib.ListN.{length, take, drop, getD}
 use Rattle.lists.specs.Keyed.{lookup}
 use Rattle.cells.proofs.Keys.{row-cell}
-use Rattle.cells.proofs.Trips.{length-decoded}
 use Rattle.rules.specs.declared.Interface.{Interface}
 use Rattle.rules.specs.Settings.{interfaceMost, interfaceCells, interfaceAt}
 use Rattle.rules.specs.Rules.{Sends}
-use Rattle.table_layout.specs.Layout.{timeAt, usedAt, ownPlace, interfacePart}
-use Rattle.table_layout.specs.Interfaces.{InterfaceRow, rowsWith, decodeInterface, encodeInterface}
-use Rattle.table_layout.specs.Cells.{interfacesIn, decode}
+use Rattle.table_layout.specs.Layout.{timeAt, usedAt, ownPlace}
+use Rattle.table_layout.specs.Interfaces.{InterfaceRow, rowsWith, encodeInterface}
+use Rattle.table_layout.specs.Cells.{decode}
 use Rattle.table_layout.specs.Facts.{Knows}
+use Rattle.table_layout.proofs.Encoding.{used-length}
 use Rattle.table_changes.proofs.Sent.{none-sent, interface-lent}
 
 module _ (c : List ℕ) where
@@ -24,7 +24,7 @@ module _ (c : List ℕ) where
 
   pub used-read : length (decode c .config .interfaces) ≡ getD c usedAt 0
   unfolding decode
-  used-read = length-map (interfacesIn c) (λ r. r .0) ∙ length-decoded decodeInterface interfaceCells (getD c usedAt 0) (interfacePart c)
+  used-read = used-length c
 
 -- ---- interface rows
 

@@ -57,7 +57,7 @@ module _ (c : List ℕ) (time : getD c timeAt 0 < 18446744073709551616) (hd : he
   each-record = and-right (rising (recordsIn c)) _ (and-left _ (allZero (unusedRecords c)) hr)
 
   valid-by : Wf (decode c)
-  unfolding decode allowed neighboursOk recordsOk
+  unfolding decode neighboursOk recordsOk
   valid-by =
       let tests : ℕ × TableRecord → Bool = λ e. and (recordTests (configIn c) (getD c timeAt 0) e) in
       let rr = and-left (rising (rowsIn c) && all (λ e. and (rowTests (configIn c) (sendsIn c) e)) (rowsIn c)) _ hn in

@@ -21,7 +21,7 @@ use Rattle.cells.proofs.Trips.{rows-take, rows-at}
 use Rattle.cells.proofs.Pairs.{pair-at}
 use Rattle.cells.proofs.Lent.{drop-take, part-is}
 use Rattle.window.specs.Window.{numbers, distance}
-use Rattle.rules.specs.Settings.{Config, isAddress, isNumber, interfaceAt, interfaceMost, interfaceCells, neighbourCells, neighbourMost, recordCells}
+use Rattle.rules.specs.Settings.{Config, isAddress, isNumber, interfaceAt, interfaceMost, interfaceCells, neighbourCells, neighbourMost, neighbourAreaCells, recordCells}
 use Rattle.rules.specs.Calls.{neighbourOf, interfaceOf}
 use Rattle.rules.specs.Rules.{lastSent}
 use Rattle.rules.specs.WellFormed.{rowTests}
@@ -57,10 +57,10 @@ module _ (c : List ℕ) (pair number : ℕ) where
   abbrev after-use : Option ℕ → Bool
   after-use o =
       maybe o false (λ v. true)
-      && (isNumber number && (ltb (distance (maybe o (distance (interfaceAt (configIn c) (pair % 4) .first) 1) (λ n. n)) number) (getD c timeoutAt 0) && true))
+      && (isNumber number && (ltb (distance (maybe o (distance (interfaceAt (configIn c) (pair % interfaceMost) .first) 1) (λ n. n)) number) (getD c timeoutAt 0) && true))
 
   abbrev place : ℕ
-  place = ownPlace (pair % 4)
+  place = ownPlace (pair % interfaceMost)
 
   abbrev stands : Bool → Option ℕ
   stands b = cond b (some (getD c (place + lastAt) 0)) none
@@ -72,18 +72,18 @@ module _ (c : List ℕ) (pair number : ℕ) where
   after-sent d hn ed false = refl
 
   pub neighbour-tests : (d : ℕ) → number < numbers → d ≡ distance (getD c (place + lastAt) 0) number
-      → ltb pair 17179869184 && (ltb (pair % 4) (getD c usedAt 0) && (eqb (getD c (place + sentAt) 0) 1 && ltb d (getD c timeoutAt 0))) ≡ and (rowTests (configIn c) (sendsIn c) (pair, number))
+      → ltb pair 17179869184 && (ltb (pair % interfaceMost) (getD c usedAt 0) && (eqb (getD c (place + sentAt) 0) 1 && ltb d (getD c timeoutAt 0))) ≡ and (rowTests (configIn c) (sendsIn c) (pair, number))
   unfolding interfaceOf lastSent
   neighbour-tests d hn ed =
-      go (ltb (pair % 4) (getD c usedAt 0)) refl
-      ∙ ap (λ (n : ℕ). isAddress (neighbourOf pair) && (ltb (pair % 4) n && after-use (lookup (pair % 4) (sendsIn c)))) (sym (used-length c))
+      go (ltb (pair % interfaceMost) (getD c usedAt 0)) refl
+      ∙ ap (λ (n : ℕ). isAddress (neighbourOf pair) && (ltb (pair % interfaceMost) n && after-use (lookup (pair % interfaceMost) (sendsIn c)))) (sym (used-length c))
     where
-      go : (u : Bool) → ltb (pair % 4) (getD c usedAt 0) ≡ u
-          → ltb pair 17179869184 && (u && (eqb (getD c (place + sentAt) 0) 1 && ltb d (getD c timeoutAt 0))) ≡ isAddress (neighbourOf pair) && (u && after-use (lookup (pair % 4) (sendsIn c)))
+      go : (u : Bool) → ltb (pair % interfaceMost) (getD c usedAt 0) ≡ u
+          → ltb pair 17179869184 && (u && (eqb (getD c (place + sentAt) 0) 1 && ltb d (getD c timeoutAt 0))) ≡ isAddress (neighbourOf pair) && (u && after-use (lookup (pair % interfaceMost) (sendsIn c)))
       go false eu = ap (λ (b : Bool). b && false) (small-pair pair)
       go true eu =
-          let e : eqb (getD c (place + sentAt) 0) 1 && ltb d (getD c timeoutAt 0) ≡ after-use (lookup (pair % 4) (sendsIn c)) =
-          after-sent d hn ed (eqb (getD c (place + sentAt) 0) 1) ∙ ap after-use (sym (sent-is c (pair % 4) (omega arith) (ltb-true (pair % 4) (getD c usedAt 0) eu))) in
+          let e : eqb (getD c (place + sentAt) 0) 1 && ltb d (getD c timeoutAt 0) ≡ after-use (lookup (pair % interfaceMost) (sendsIn c)) =
+          after-sent d hn ed (eqb (getD c (place + sentAt) 0) 1) ∙ ap after-use (sym (sent-is c (pair % interfaceMost) (omega arith) (ltb-true (pair % interfaceMost) (getD c usedAt 0) eu))) in
           λ j. small-pair pair j && e j
 
 -- a neighbour row's test, of its cells
@@ -115,7 +115,7 @@ pub neighbours-done : (c : List ℕ) (t z : Bool) → getD c rowsAt 0 ≤ neighb
 unfolding neighboursOk
 neighbours-done c t z few et ez =
     let n = getD c rowsAt 0 in
-    let rows : rowsOf neighbourCells n (neighbourPart c) ≡ rowsOf neighbourCells n (drop neighboursFrom c) = rows-take neighbourCells n 64 (drop neighboursFrom c) (omega arith) in
+    let rows : rowsOf neighbourCells n (neighbourPart c) ≡ rowsOf neighbourCells n (drop neighboursFrom c) = rows-take neighbourCells n neighbourAreaCells (drop neighboursFrom c) (omega arith) in
     let tests : ℕ × ℕ → Bool = λ e. and (rowTests (configIn c) (sendsIn c) e) in
     let s : t ≡ rising (rowsIn c) && all tests (rowsIn c) =
     et ∙ ap (scan (neighbourRow c) 0) (sym rows) ∙ scan-is pairOf (λ r. refl) (neighbourRow c) (rowsOf neighbourCells n (neighbourPart c))
@@ -126,9 +126,10 @@ neighbours-done c t z few et ez =
 pub unused-rows : (c : List ℕ) (at : ℕ) → at ≡ neighboursFrom + getD c rowsAt 0 * neighbourCells → getD c rowsAt 0 ≤ neighbourMost → take (recordsFrom - at) (drop at c) ≡ unusedRows c
 unused-rows c at e few =
     let n = getD c rowsAt 0 in
-    let d : drop at c ≡ drop (n * 2) (drop 29 c) = ap (λ (k : ℕ). drop k c) e ∙ sym (drop-drop (n * 2) 29 c) in
-    let k : 93 - at ≡ 64 - n * 2 = omega arith in
-    (λ i. take (k i) (d i)) ∙ sym (drop-take (n * 2) 64 (drop 29 c))
+    let m = n * neighbourCells in
+    let d : drop at c ≡ drop m (drop neighboursFrom c) = ap (λ (k : ℕ). drop k c) e ∙ sym (drop-drop m neighboursFrom c) in
+    let k : recordsFrom - at ≡ neighbourAreaCells - m = omega arith in
+    (λ i. take (k i) (d i)) ∙ sym (drop-take m neighbourAreaCells (drop neighboursFrom c))
 
 -- ---- records
 

@@ -26,10 +26,10 @@ use Rattle.table_record.specs.Record.{encodeRecord, decodeRecord, unusedLinks, 
 use Rattle.table_record.proofs.Rows.{length-record, valid-back, record-passes, record-unused, record-trip}
 use Rattle.table_layout.specs.Layout.{interfacePart, neighbourPart, recordPart, usedAt, rowsAt, recordsAt, timeAt, capacityAt}
 use Rattle.table_layout.specs.Interfaces.{InterfaceRow, rowsWith, sendsOf, encodeInterface, decodeInterface, sentTests}
-use Rattle.table_layout.specs.Cells.{interfaceArea, recordArea, encode, interfacesIn, configIn, rowsIn, recordsIn, decode, cellTests, wellFormed}
+use Rattle.table_layout.specs.Cells.{settingsRow, interfaceArea, recordArea, encode, settingsIn, interfacesIn, configIn, rowsIn, recordsIn, decode, cellTests, wellFormed}
 use Rattle.table_layout.specs.Laws.{Laws}
 use Rattle.table_layout.proofs.Interfaces.{interface-wide, interface-back, interface-tests, interface-trip, interfaces-with, length-with, rows-back, sends-back}
-use Rattle.table_layout.proofs.Parts.{length-interfaces, length-neighbours, split, encoded-interfaces, encoded-neighbours, encoded-records, length-encode}
+use Rattle.table_layout.proofs.Parts.{length-interfaces, length-neighbours, split, interfaces-lent, rows-lent, records-lent, length-encode}
 
 -- ---- a valid table
 
@@ -45,13 +45,13 @@ module _ (s : TableState) (h : R.wellFormed s ≡ true) where
 
   encoded-rows : rowsOf interfaceCells (length (s .config .interfaces)) (interfacePart (encode s)) ≡ map encodeInterface rows
   encoded-rows =
-      (λ i. rowsOf interfaceCells (sym (length-with (s .sends) 0 (s .config .interfaces)) i) (encoded-interfaces s i)) ∙ rows-area encodeInterface interfaceCells interface-wide interfaceMost rows few
+      (λ i. rowsOf interfaceCells (sym (length-with (s .sends) 0 (s .config .interfaces)) i) (interfaces-lent s i)) ∙ rows-area encodeInterface interfaceCells interface-wide interfaceMost rows few
 
   rows-decode : map decodeInterface (rowsOf interfaceCells (length (s .config .interfaces)) (interfacePart (encode s))) ≡ rows
   rows-decode = ap (map decodeInterface) encoded-rows ∙ map-back encodeInterface decodeInterface (λ (r : InterfaceRow). true) (λ r t. interface-back r) rows (all-true _ (λ r. refl) rows)
 
   encoded-each : rowsOf recordCells (length (s .records)) (recordPart (encode s)) ≡ map encodeRecord (s .records)
-  encoded-each = ap (rowsOf recordCells (length (s .records))) (encoded-records s) ∙ rows-area encodeRecord recordCells length-record (s .config .settings .capacity) (s .records) (w .records .most)
+  encoded-each = ap (rowsOf recordCells (length (s .records))) (records-lent s) ∙ rows-area encodeRecord recordCells length-record (s .config .settings .capacity) (s .records) (w .records .most)
 
   sends-same : sendsOf 0 rows ≡ s .sends
   sends-same = sends-back 0 (s .sends) (s .config .interfaces) (rising-out (s .sends) (w .sendsRise)) (all-weaken _ _ (λ e t. low (e .0)) (s .sends) (w .sends)) (all-weaken _ _ (λ e t. used e t) (s .sends) (w .sends))
@@ -68,7 +68,7 @@ module _ (s : TableState) (h : R.wellFormed s ≡ true) where
       let is : map (λ r. r .0) (map decodeInterface (rowsOf interfaceCells (length (s .config .interfaces)) (interfacePart (encode s)))) ≡ s .config .interfaces =
       ap (map (λ r. r .0)) rows-decode ∙ interfaces-with (s .sends) 0 (s .config .interfaces) in
       let ns = ap (sendsOf 0) rows-decode ∙ sends-same in
-      let rs = ap (pairsOf (length (s .rows))) (encoded-neighbours s) ∙ pairs-area neighbourMost (s .rows) (w .rows .most) in
+      let rs = ap (pairsOf (length (s .rows))) (rows-lent s) ∙ pairs-area neighbourMost (s .rows) (w .rows .most) in
       let es = ap (map decodeRecord) encoded-each ∙ map-back encodeRecord decodeRecord (λ e. and (recordTests (s .config) (s .time) e)) (valid-back (s .config) (s .time)) (s .records) (w .records .each) in
       λ i. record { config = record { settings = s .config .settings; interfaces = is i }; time = s .time; sends = ns i; rows = rs i; records = es i }
 
@@ -79,14 +79,14 @@ module _ (s : TableState) (h : R.wellFormed s ≡ true) where
       let sent : all (λ row. and (sentTests row)) (rowsOf interfaceCells (length (s .config .interfaces)) (interfacePart (encode s))) ≡ true =
       ap (all (λ row. and (sentTests row))) encoded-rows ∙ all-map encodeInterface (λ row. and (sentTests row)) rows ∙ all-true _ interface-tests rows in
       let free : allZero (drop (length (s .config .interfaces) * interfaceCells) (interfacePart (encode s))) ≡ true =
-      (λ i. allZero (drop (sym (length-with (s .sends) 0 (s .config .interfaces)) i * interfaceCells) (encoded-interfaces s i))) ∙ rest-area encodeInterface interfaceCells interface-wide interfaceMost rows in
+      (λ i. allZero (drop (sym (length-with (s .sends) 0 (s .config .interfaces)) i * interfaceCells) (interfaces-lent s i))) ∙ rest-area encodeInterface interfaceCells interface-wide interfaceMost rows in
       let links : all (λ row. allZero (unusedLinks row)) (rowsOf recordCells (length (s .records)) (recordPart (encode s))) ≡ true =
       ap (all (λ row. allZero (unusedLinks row))) encoded-each ∙ all-map encodeRecord (λ row. allZero (unusedLinks row)) (s .records)
       ∙ all-weaken _ _ (λ e t. record-unused (s .config) (s .time) (encodeRecord e) (record-passes (s .config) (s .time) e t)) (s .records) (w .records .each) in
       let free-rows : allZero (drop (length (s .rows) * neighbourCells) (neighbourPart (encode s))) ≡ true =
-      ap (λ (l : List ℕ). allZero (drop (length (s .rows) * neighbourCells) l)) (encoded-neighbours s) ∙ pairs-rest neighbourMost (s .rows) in
+      ap (λ (l : List ℕ). allZero (drop (length (s .rows) * neighbourCells) l)) (rows-lent s) ∙ pairs-rest neighbourMost (s .rows) in
       let free-records : allZero (drop (length (s .records) * recordCells) (recordPart (encode s))) ≡ true =
-      ap (λ (l : List ℕ). allZero (drop (length (s .records) * recordCells) l)) (encoded-records s) ∙ rest-area encodeRecord recordCells length-record cap (s .records) in
+      ap (λ (l : List ℕ). allZero (drop (length (s .records) * recordCells) l)) (records-lent s) ∙ rest-area encodeRecord recordCells length-record cap (s .records) in
       both (eq-eqb (length (encode s)) (tableHead + cap * recordCells) (length-encode s)) (both (ap R.wellFormed decode-encode ∙ h) (both sent (both free (both free-rows (both links (both free-records refl))))))
 
 -- tables with equal cells are equal
@@ -159,8 +159,8 @@ module _ (c : List ℕ) (h : wellFormed c ≡ true) where
   encode-decode =
       let rest : interfaceArea (decode c) ++ (pairArea neighbourMost (rowsIn c) ++ recordArea (getD c capacityAt 0) (recordsIn c)) ≡ interfacePart c ++ (neighbourPart c ++ recordPart c) =
       λ i. interfaces-trip i ++ (neighbours-trip i ++ records-trip i) in
-      (λ i. getD c 0 0 ∷ getD c 1 0 ∷ getD c 2 0 ∷ getD c 3 0 ∷ getD c 4 0 ∷ used-length c i ∷ getD c 6 0 ∷ length-pairs (getD c rowsAt 0) (neighbourPart c) i
-      ∷ length-decoded decodeRecord recordCells (getD c recordsAt 0) (recordPart c) i ∷ rest i) ∙ sym (split c big)
+      (λ i. settingsRow (settingsIn c) ++ (used-length c i ∷ getD c timeAt 0 ∷ length-pairs (getD c rowsAt 0) (neighbourPart c) i ∷ length-decoded decodeRecord recordCells (getD c recordsAt 0) (recordPart c) i ∷ rest i))
+      ∙ sym (split c big)
 
 -- ---- together
 

@@ -18,7 +18,7 @@ use Rattle.rules.specs.declared.Interface.{Interface}
 use Rattle.rules.specs.Settings.{Config, interfaceCells, isNumber}
 use Rattle.rules.specs.Rules.{Sends}
 use Rattle.rules.specs.WellFormed.{sendTests}
-use Rattle.table_layout.specs.Layout.{sentAt, lastAt}
+use Rattle.table_layout.specs.Layout.{ownAt, broadcastAt, firstAt, sentAt, lastAt}
 use Rattle.table_layout.specs.Interfaces.{InterfaceRow, rowsWith, sendsOf, encodeInterface, decodeInterface, sentTests}
 
 -- ---- a row in cells
@@ -48,16 +48,17 @@ unfolding encodeInterface decodeInterface
 interface-trip row e h =
     let s = getD row sentAt 0 in
     let l = getD row lastAt 0 in
-    let all-five : row ≡ cellsFrom 0 5 row = cells-from 0 5 row (omega arith) ∙ ap (λ (x : List ℕ). cellsFrom 0 5 row ++ x) (drop-of-length-le row {i = 5} (omega arith)) in
-    go (eqb s 1) refl (leb-true s 1 (and-at (sentTests row) h 0)) (and-at (sentTests row) h 1) ∙ sym all-five
+    let each : row ≡ cellsFrom 0 interfaceCells row =
+    cells-from 0 interfaceCells row (omega arith) ∙ ap (λ (x : List ℕ). cellsFrom 0 interfaceCells row ++ x) (drop-of-length-le row {i = interfaceCells} (omega arith)) in
+    go (eqb s 1) refl (leb-true s 1 (and-at (sentTests row) h 0)) (and-at (sentTests row) h 1) ∙ sym each
   where
     go : (b : Bool) → eqb (getD row sentAt 0) 1 ≡ b → getD row sentAt 0 ≤ 1 → b || eqb (getD row lastAt 0) 0 ≡ true
-        → getD row 0 0 ∷ getD row 1 0 ∷ getD row 2 0 ∷ maybe (cond b (some (getD row lastAt 0)) none) 0 (λ n. 1) ∷ maybe (cond b (some (getD row lastAt 0)) none) 0 (λ n. n) ∷ [] ≡ cellsFrom 0 5 row
-    go true eb k t = let f = eqb-true (getD row sentAt 0) 1 eb in λ i. getD row 0 0 ∷ getD row 1 0 ∷ getD row 2 0 ∷ sym f i ∷ getD row lastAt 0 ∷ []
+        → getD row ownAt 0 ∷ getD row broadcastAt 0 ∷ getD row firstAt 0 ∷ maybe (cond b (some (getD row lastAt 0)) none) 0 (λ n. 1) ∷ maybe (cond b (some (getD row lastAt 0)) none) 0 (λ n. n) ∷ [] ≡ cellsFrom 0 interfaceCells row
+    go true eb k t = let f = eqb-true (getD row sentAt 0) 1 eb in λ i. getD row ownAt 0 ∷ getD row broadcastAt 0 ∷ getD row firstAt 0 ∷ sym f i ∷ getD row lastAt 0 ∷ []
     go false eb k t =
         let f = eqb-false (getD row sentAt 0) 1 eb in
         let z : 0 ≡ getD row sentAt 0 = omega arith in
-        λ i. getD row 0 0 ∷ getD row 1 0 ∷ getD row 2 0 ∷ z i ∷ sym (eqb-true (getD row lastAt 0) 0 t) i ∷ []
+        λ i. getD row ownAt 0 ∷ getD row broadcastAt 0 ∷ getD row firstAt 0 ∷ z i ∷ sym (eqb-true (getD row lastAt 0) 0 t) i ∷ []
 
 -- the number of one that has sent
 abbrev pub numberOk : InterfaceRow → Bool

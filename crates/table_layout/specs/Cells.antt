@@ -7,6 +7,7 @@ use lib.ListN.{length, drop, getD}
 use Rattle.lists.specs.Lists.{and, all}
 use Rattle.cells.specs.Area.{area, rowsOf, allZero}
 use Rattle.cells.specs.Pairs.{pairArea, pairsOf}
+use Rattle.rules.specs.declared.Settings.{Settings}
 use Rattle.rules.specs.Settings.{Config, interfaceMost, neighbourMost, interfaceCells, neighbourCells, recordCells, cellsNeeded}
 use Rattle.rules.specs.Rules.{Sends}
 use Rattle.rules.specs.Table.{TableRows, TableRecord, TableState}
@@ -17,18 +18,11 @@ use Rattle.table_layout.specs.Interfaces.{InterfaceRow, rowsWith, sendsO
 
 -- ---- from a table to cells
 
+abbrev pub settingsRow : Settings → List ℕ
+settingsRow σ = σ .version ∷ σ .window ∷ σ .timeout ∷ σ .purge ∷ σ .capacity ∷ []
+
 abbrev pub headOf : TableState → List ℕ
-headOf s =
-    s .config .settings .version
-    ∷ s .config .settings .window
-    ∷ s .config .settings .timeout
-    ∷ s .config .settings .purge
-    ∷ s .config .settings .capacity
-    ∷ length (s .config .interfaces)
-    ∷ s .time
-    ∷ length (s .rows)
-    ∷ length (s .records)
-    ∷ []
+headOf s = settingsRow (s .config .settings) ++ (length (s .config .interfaces) ∷ s .time ∷ length (s .rows) ∷ length (s .records) ∷ [])
 
 abbrev pub interfaceArea : TableState → List ℕ
 interfaceArea s = area encodeInterface interfaceCells interfaceMost (rowsWith (s .sends) 0 (s .config .interfaces))
@@ -41,20 +35,20 @@ encode s = headOf s ++ (interfaceArea s ++ (pairArea neighbourMost (s .rows) ++ 
 
 -- ---- and back
 
+abbrev pub settingsIn : List ℕ → Settings
+settingsIn c = record {
+  version = getD c versionAt 0;
+  window = getD c windowAt 0;
+  timeout = getD c timeoutAt 0;
+  purge = getD c purgeAt 0;
+  capacity = getD c capacityAt 0;
+}
+
 abbrev pub interfacesIn : List ℕ → List InterfaceRow
 interfacesIn c = map decodeInterface (rowsOf interfaceCells (getD c usedAt 0) (interfacePart c))
 
 abbrev pub configIn : List ℕ → Config
-configIn c = record {
-  settings = record {
-    version = getD c versionAt 0;
-    window = getD c windowAt 0;
-    timeout = getD c timeoutAt 0;
-    purge = getD c purgeAt 0;
-    capacity = getD c capacityAt 0;
-  };
-  interfaces = map (λ r. r .0) (interfacesIn c);
-}
+configIn c = record { settings = settingsIn c; interfaces = map (λ r. r .0) (interfacesIn c) }
 
 abbrev pub sendsIn : List ℕ → Sends
 sendsIn c = sendsOf 0 (interfacesIn c)

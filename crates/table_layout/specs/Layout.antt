@@ -2,9 +2,9 @@
 use mathlib.Core.List.{List}
 use Prim.Native.Nat.{ℕ, _+_, _*_}
 use lib.ListN.{take, drop}
-use Rattle.rules.specs.Settings.{interfaceMost, neighbourMost, headCells, interfaceCells, neighbourCells, tableHead}
+use Rattle.rules.specs.Settings.{settingCells, headCells, interfaceCells, interfaceAreaCells, neighbourAreaCells, tableHead}
 
--- ---- the head: settings, interfaces in use, time, neighbour rows held, originators held
+-- ---- the head: the settings, then interfaces in use, time, neighbour rows held, originators held
 
 abbrev pub versionAt : ℕ
 versionAt = 0
@@ -22,16 +22,16 @@ abbrev pub capacityAt : ℕ
 capacityAt = 4
 
 abbrev pub usedAt : ℕ
-usedAt = 5
+usedAt = settingCells
 
 abbrev pub timeAt : ℕ
-timeAt = 6
+timeAt = settingCells + 1
 
 abbrev pub rowsAt : ℕ
-rowsAt = 7
+rowsAt = settingCells + 2
 
 abbrev pub recordsAt : ℕ
-recordsAt = 8
+recordsAt = settingCells + 3
 
 -- ---- the places in an interface row
 
@@ -58,16 +58,16 @@ abbrev pub interfacesFrom : ℕ
 interfacesFrom = headCells
 
 abbrev pub neighboursFrom : ℕ
-neighboursFrom = headCells + interfaceMost * interfaceCells
+neighboursFrom = interfacesFrom + interfaceAreaCells
 
 abbrev pub recordsFrom : ℕ
 recordsFrom = tableHead
 
 abbrev pub interfacePart : List ℕ → List ℕ
-interfacePart c = take (interfaceMost * interfaceCells) (drop interfacesFrom c)
+interfacePart c = take interfaceAreaCells (drop interfacesFrom c)
 
 abbrev pub neighbourPart : List ℕ → List ℕ
-neighbourPart c = take (neighbourMost * neighbourCells) (drop neighboursFrom c)
+neighbourPart c = take neighbourAreaCells (drop neighboursFrom c)
 
 abbrev pub recordPart : List ℕ → List ℕ
 recordPart c = drop recordsFrom c

@@ -8,28 +8,25 @@ use Prim.Native.Nat.{ℕ, _+_, _-_, _*_, _≤_, _<_}
 use native.Mathlib.Nat.{add-zero}
 use native.Mathlib.Omega.{arith}
 use borrow.Author.Tests.{ltb-true}
-use lib.ListN.{length, take, drop, getD, set, length-append, length-drop, length-set}
-use lib.Seq.{length-take-le}
+use lib.ListN.{length, take, drop, getD, set, length-set}
 use borrow.Rule.Slice.PartMut.{putMid}
 use Rattle.lists.specs.Lists.{maybe, keep, all}
 use Rattle.lists.specs.Keyed.{hasKey, put}
 use Rattle.cells.specs.Area.{zeros, column, written, putIn, insertAt}
 use Rattle.cells.specs.Pairs.{pairCells, pairRow, pairOf, pairArea, pairsOf}
 use Rattle.cells.specs.Find.{Sorted, IsAt, IsPlace}
-use Rattle.cells.proofs.Areas.{length-area, put-row, write-row}
+use Rattle.cells.proofs.Areas.{length-insert, length-area, put-row, write-row}
 use Rattle.lists.proofs.Lists.{keep-all}
 use Rattle.cells.proofs.Keys.{length-column}
 use Rattle.cells.proofs.Pairs.{pair-wide, length-pairs, pairs-one, pairs-none}
 use Rattle.cells.proofs.Search.{Apart, sorted, found-at, found-place, put-among, put-apart, at-below}
 use Rattle.cells.proofs.Compact.{Turn, Pass, pass-start, pass-turn, pass-dropped, pass-moved, pass-along, pass-done, pass-left, pass-size}
-use Rattle.rules.specs.Settings.{neighbourMost, isNumber}
+use Rattle.window.specs.Window.{numbers}
+use Rattle.rules.specs.Settings.{neighbourMost, neighbourAreaCells, isNumber}
 use Rattle.table_neighbours.specs.Neighbours.{RowsHeld, Recorded, NoRoom, staysAfter}
 
-length-insert : {A : Type 0} (i : ℕ) (a : A) (l : List A) → i ≤ length l → length (insertAt i a l) ≡ length l + 1
-length-insert i a l h = omega (arith, length-append (take i l) (a ∷ drop i l), length-take-le i l h, length-drop i l)
-
 module _ (n : ℕ) (c : List ℕ) (h : RowsHeld n c) where
-  pub size : length c ≡ 64
+  pub size : length c ≡ neighbourAreaCells
   size = ap length (h .cells) ∙ length-area pairRow pairCells pair-wide neighbourMost (pairsOf n c)
 
   pub asks : Sorted pairCells n c
@@ -43,10 +40,10 @@ module _ (n : ℕ) (c : List ℕ) (h : RowsHeld n c) where
     missing p = ap (λ (x : Option ℕ). maybe x false (λ v. true)) (found-place pairOf (λ r. refl) pairCells n c k i p .missing)
 
     -- a row that is found, or put in, lies within the area
-    pub at-room : IsAt (column pairCells n c) k i → i * pairCells + pairCells ≤ 64
+    pub at-room : IsAt (column pairCells n c) k i → i * pairCells + pairCells ≤ neighbourAreaCells
     at-room p = omega (arith, h .most, at-below pairCells n c k i p)
 
-    pub place-room : IsPlace (column pairCells n c) k i → n < neighbourMost → i * pairCells + pairCells ≤ 64
+    pub place-room : IsPlace (column pairCells n c) k i → n < neighbourMost → i * pairCells + pairCells ≤ neighbourAreaCells
     place-room p m = omega (arith, length-column pairCells n c, p .within)
 
     module _ (number : ℕ) (d : List ℕ) where
@@ -121,8 +118,8 @@ module _ (n i last B : ℕ) (before : List ℕ) where
     row-read : (getD c from 0, getD c (from + 1) 0) ≡ next .next
     row-read = λ j. ((ap (λ (k : ℕ). getD c k 0) (sym (add-zero from)) ∙ next .cell 0 (omega arith)) j, next .cell 1 (omega arith) j)
 
-    pub number-read : getD c (from + 1) 0 < 65536
-    number-read = ltb-true (getD c (from + 1) 0) 65536 (ap (λ (e : ℕ × ℕ). isNumber (e .1)) row-read ∙ next .passes)
+    pub number-read : getD c (from + 1) 0 < numbers
+    number-read = ltb-true (getD c (from + 1) 0) numbers (ap (λ (e : ℕ × ℕ). isNumber (e .1)) row-read ∙ next .passes)
 
     pub dropped : staysAfter i last B (getD c from 0, getD c (from + 1) 0) ≡ false → Going c kept to (from + pairCells) (left - 1)
     dropped e =

@@ -22,7 +22,7 @@ pub record RowsHeld (n : ℕ) (c : List ℕ) : Type 0 where
   pub rises : rising (pairsOf n c) ≡ true
   pub numbers : all (λ e. isNumber (e .1)) (pairsOf n c) ≡ true
 
--- the row of a link takes a number, made if absent, unless it is absent and 32 are held
+-- the row of a link takes a number, made if absent, unless it is absent and as many are held as there is room for
 pub record Recorded (n : ℕ) (before after : List ℕ) (link number rows : ℕ) : Type 0 where
   pub room : (hasKey link (pairsOf n before) ≡ true) ⊎ (n < neighbourMost)
   pub cells : after ≡ pairArea neighbourMost (put link number (pairsOf n before))

@@ -16,6 +16,7 @@ ghost use lib.ListN.{length};
 ghost use Rattle.lists.specs.Lists.{keep, all};
 ghost use Rattle.lists.specs.Keyed.{hasKey};
 ghost use Rattle.cells.specs.Pairs.{pairArea, pairsOf};
+ghost use Rattle.window.specs.Window.{numbers};
 ghost use Rattle.rules.specs.Settings.{neighbourMost};
 ghost use Rattle.table_neighbours.specs.Neighbours.{RowsHeld, EchoTaken, staysAfter};
 
@@ -66,7 +67,7 @@ pub fn record_echo(rows: &mut [u64], n: usize, link: u64, number: u64) -> Echo
 
 // Whether a row stays when an interface has sent the number `last`.
 fn stays(link: u64, number: u64, interface: u64, last: u16, timeout: u64) -> bool
-    requires { ⌜ number < 65536 ⌝ }
+    requires { ⌜ number < numbers ⌝ }
     ensures { λ r. ⌜ r ≡ staysAfter interface last timeout (link, number) ⌝ }
 {
     (link % INTERFACES_MOST != interface) | (distance(last, (number % NUMBERS) as u16) < timeout)

@@ -28,7 +28,9 @@ use Rattle.table_layout.specs.Cells.{headOf, interfaceArea, recordArea, encode,
 use Rattle.table_layout.specs.Facts.{recordAt}
 use Rattle.lists.proofs.Rising.{rising-out}
 use Rattle.table_changes.specs.Changes.{withRecords}
-use Rattle.table_changes.proofs.Parts.{interface-wide, encoded-size, records-lent, records-back}
+use Rattle.table_layout.proofs.Interfaces.{interface-wide}
+use Rattle.table_layout.proofs.Parts.{encoded-size, records-lent}
+use Rattle.table_changes.proofs.Parts.{records-back}
 use Rattle.table_changes.proofs.Sent.{run-back}
 use Rattle.rules.proofs.WellFormed.{Wf, parts}
 use Rattle.count_in_record.specs.Counting.{Counted}

@@ -1,9 +1,9 @@
 -- The tests of the head and of the interface rows are document 01's, whatever their order. Assumes nothing.
 use mathlib.Core.Path.{_≡_, refl, sym, ap, _∙_}
 use mathlib.Core.List.{List}
-use mathlib.Core.Bool.{Bool, true, false, cond, _&&_, _||_, and-true}
+use mathlib.Core.Bool.{Bool, true, false, cond, _&&_, _||_}
 use mathlib.Core.Option.{none, some}
-use Prim.Native.Nat.{ℕ, _+_, _*_, _≤_, _<_, zero-le}
+use Prim.Native.Nat.{ℕ, _+_, _*_, _<_}
 use native.Mathlib.Omega.{arith}
 use lib.Dec.{leb, eqb}
 use lib.ListN.{length, getD, length-map}
@@ -14,39 +14,29 @@ use Rattle.lists.proofs.Tests.{and-left, and-right, both, and-at}
 use Rattle.lists.proofs.Lists.{all-map, all-weaken, all-meet}
 use Rattle.cells.proofs.Bools.{fails}
 use Rattle.rules.specs.declared.Settings.{Settings}
-use Rattle.rules.specs.Settings.{configTests, interfaceTests, allowed, isNumber, interfaceMost, neighbourMost, capacityMost, versionMost, windowMost, timeoutMost, purgeMost, interfaceCells, recordCells, tableHead, cellsNeeded, within, differ, ownAddresses}
+use Rattle.rules.specs.Settings.{settingsOk, interfaceTests, allowed, isNumber, interfaceMost, neighbourMost, interfaceCells, recordCells, tableHead, cellsNeeded, within, differ, ownAddresses}
 use Rattle.rules.specs.WellFormed.{sendTests}
-use Rattle.table_layout.specs.Layout.{capacityAt, windowAt, timeoutAt, purgeAt, usedAt, rowsAt, recordsAt, ownAt, broadcastAt, firstAt, sentAt, lastAt, interfacePart}
+use Rattle.rules.proofs.Config.{within-low, within-high, window-least, window-most, timeout-most, purge-most, capacity-most, allowed-by, settings-allowed, number-allowed, each-allowed, own-differ}
+use Rattle.table_layout.specs.Layout.{capacityAt, usedAt, rowsAt, recordsAt, ownAt, broadcastAt, firstAt, sentAt, lastAt, interfacePart}
 use Rattle.table_layout.specs.Interfaces.{InterfaceRow, decodeInterface, sentTests}
-use Rattle.table_layout.specs.Cells.{interfacesIn, configIn, sendsIn, decode, unusedInterfaces, wellFormed}
-use Rattle.table_settings.specs.Check.{settingsTests, settingsOk, headOk, interfaceRowTests, interfaceRowOk, interfacesOk}
+use Rattle.table_layout.specs.Cells.{settingsIn, interfacesIn, configIn, sendsIn, decode, unusedInterfaces, wellFormed}
+use Rattle.table_settings.specs.Check.{headOk, interfaceRowTests, interfaceRowOk, interfacesOk}
 use Rattle.table_layout.specs.Facts.{Sized}
 use Rattle.table_layout.proofs.Interfaces.{numberOk, sends-pass, sends-numbers}
 use Rattle.table_layout.proofs.Encoding.{clause, holds, cells-size, used-length, rows-few, records-few}
 
 -- ---- the head
 
-pub settings-tests : (σ : Settings)
-    → leb (σ .version) versionMost && (within 1 windowMost (σ .window) && (within 1 timeoutMost (σ .timeout) && (within 1 purgeMost (σ .purge) && within 1 capacityMost (σ .capacity)))) ≡ settingsOk σ
-unfolding settingsOk
-settings-tests σ =
-    let z : true ≡ leb 0 (σ .version) = sym (le-leb 0 (σ .version) zero-le) in
-    λ i. z i && leb (σ .version) versionMost && (within 1 windowMost (σ .window) && (within 1 timeoutMost (σ .timeout) && (within 1 purgeMost (σ .purge) && sym (and-true (within 1 capacityMost (σ .capacity))) i)))
+-- what is left of it once the settings are read
+abbrev rest : List ℕ → Settings → Bool
+rest c σ =
+    within 1 interfaceMost (getD c usedAt 0)
+    && (leb (getD c rowsAt 0) neighbourMost && (leb (getD c recordsAt 0) (σ .capacity) && eqb (length c) (tableHead + σ .capacity * recordCells)))
 
-pub capacity-few : (σ : Settings) → settingsOk σ ≡ true → σ .capacity ≤ capacityMost
-unfolding settingsOk
-capacity-few σ h = leb-true (σ .capacity) capacityMost (and-right (leb 1 (σ .capacity)) _ (and-at (settingsTests σ) h 4))
-
-module _ (c : List ℕ) where
-  abbrev pub head-rest : Bool
-  head-rest =
-      within 1 interfaceMost (getD c usedAt 0)
-      && (leb (getD c rowsAt 0) neighbourMost && (leb (getD c recordsAt 0) (getD c capacityAt 0) && eqb (length c) (tableHead + getD c capacityAt 0 * recordCells)))
-
-  -- the settings first
-  pub head-by : (b : Bool) → settingsOk (configIn c .settings) ≡ b → headOk c ≡ b && head-rest
-  unfolding headOk cellsNeeded
-  head-by b e = ap (λ (x : Bool). x && head-rest) e
+-- the settings decide first
+pub head-by : (c : List ℕ) (σ : Settings) → σ ≡ settingsIn c → (b : Bool) → settingsOk σ ≡ b → headOk c ≡ b && rest c σ
+unfolding headOk cellsNeeded
+head-by c σ e b k = ap (λ (x : Settings). settingsOk x && rest c x) (sym e) ∙ ap (λ (x : Bool). x && rest c σ) k
 
 -- ---- an interface row
 
@@ -75,28 +65,26 @@ row-passes row hi hs hn =
 -- ---- well-formed cells pass these tests
 
 module _ (c : List ℕ) (h : wellFormed c ≡ true) where
-  configured : and (configTests (configIn c)) ≡ true
-  unfolding decode allowed
+  configured : allowed (configIn c) ≡ true
+  unfolding decode
   configured = holds c h .allowed
 
   pub head-from : headOk c ≡ true
-  unfolding headOk settingsOk cellsNeeded
+  unfolding headOk cellsNeeded
   head-from =
-      let t = and-at (configTests (configIn c)) configured in
-      both (both (t 0) (both (t 1) (both (t 2) (both (t 3) (both (t 4) refl)))))
-      (both (ap (within 1 interfaceMost) (sym (used-length c)) ∙ t 5)
+      both (settings-allowed (configIn c) configured)
+      (both (ap (within 1 interfaceMost) (sym (used-length c)) ∙ number-allowed (configIn c) configured)
       (both (le-leb (getD c rowsAt 0) neighbourMost (rows-few c h)) (both (le-leb (getD c recordsAt 0) (getD c capacityAt 0) (records-few c h)) (eq-eqb (length c) (tableHead + getD c capacityAt 0 * recordCells) (cells-size c h)))))
 
   pub interfaces-from : interfacesOk c ≡ true
   unfolding interfacesOk decode
   interfaces-from =
-      let t = and-at (configTests (configIn c)) configured in
       let rows = rowsOf interfaceCells (getD c usedAt 0) (interfacePart c) in
       let address : InterfaceRow → Bool = λ r. and (interfaceTests (r .0)) in
-      let a : all (λ row. address (decodeInterface row)) rows ≡ true = sym (all-map decodeInterface address rows) ∙ sym (all-map (λ (r : InterfaceRow). r .0) (λ x. and (interfaceTests x)) (interfacesIn c)) ∙ t 6 in
+      let a : all (λ row. address (decodeInterface row)) rows ≡ true = sym (all-map decodeInterface address rows) ∙ sym (all-map (λ (r : InterfaceRow). r .0) (λ x. and (interfaceTests x)) (interfacesIn c)) ∙ each-allowed (configIn c) configured in
       let n : all (λ row. numberOk (decodeInterface row)) rows ≡ true = sym (all-map decodeInterface numberOk rows) ∙ sends-numbers (configIn c) 0 (interfacesIn c) (holds c h .sends) in
       let each = all-weaken _ interfaceRowOk (λ row k. passes row k) rows (all-meet _ _ _ (λ row g k. both g k) rows a (all-meet _ _ _ (λ row g k. both g k) rows (clause c h 2) n)) in
-      both (both each (clause c h 3)) (t 7)
+      both (both each (clause c h 3)) (own-differ (configIn c) configured)
     where
       passes : (row : List ℕ) → and (interfaceTests (decodeInterface row .0)) && (and (sentTests row) && numberOk (decodeInterface row)) ≡ true → interfaceRowOk row ≡ true
       passes row k =
@@ -109,27 +97,27 @@ module _ (c : List ℕ) (h : wellFormed c ≡ true) where
 
 -- what the head tells
 pub head-sized : (c : List ℕ) → headOk c ≡ true → Sized c
-unfolding headOk settingsOk cellsNeeded
+unfolding headOk cellsNeeded
 head-sized c h =
-    let σ = configIn c .settings in
+    let σ = settingsIn c in
     let used = within 1 interfaceMost (getD c usedAt 0) in
     let rows = leb (getD c rowsAt 0) neighbourMost in
     let records = leb (getD c recordsAt 0) (getD c capacityAt 0) in
     let size = eqb (length c) (tableHead + getD c capacityAt 0 * recordCells) in
-    let a = and-right (and (settingsTests σ)) (used && (rows && (records && size))) h in
+    let a = and-right (settingsOk σ) (used && (rows && (records && size))) h in
     let b = and-right used (rows && (records && size)) a in
     let d = and-right rows (records && size) b in
-    let t = and-at (settingsTests σ) (and-left (and (settingsTests σ)) (used && (rows && (records && size))) h) in
+    let s = and-left (settingsOk σ) (used && (rows && (records && size))) h in
     let u = and-left used (rows && (records && size)) a in
     record {
       size = eqb-true (length c) (tableHead + getD c capacityAt 0 * recordCells) (and-right records size d);
-      capacity = leb-true (getD c capacityAt 0) capacityMost (and-right (leb 1 (getD c capacityAt 0)) _ (t 4));
-      window-least = leb-true 1 (getD c windowAt 0) (and-left _ (leb (getD c windowAt 0) windowMost) (t 1));
-      window-most = leb-true (getD c windowAt 0) windowMost (and-right (leb 1 (getD c windowAt 0)) _ (t 1));
-      timeout = leb-true (getD c timeoutAt 0) timeoutMost (and-right (leb 1 (getD c timeoutAt 0)) _ (t 2));
-      purge = leb-true (getD c purgeAt 0) purgeMost (and-right (leb 1 (getD c purgeAt 0)) _ (t 3));
-      used-least = leb-true 1 (getD c usedAt 0) (and-left (leb 1 (getD c usedAt 0)) (leb (getD c usedAt 0) interfaceMost) u);
-      used-most = leb-true (getD c usedAt 0) interfaceMost (and-right (leb 1 (getD c usedAt 0)) (leb (getD c usedAt 0) interfaceMost) u);
+      capacity = capacity-most σ s;
+      window-least = window-least σ s;
+      window-most = window-most σ s;
+      timeout = timeout-most σ s;
+      purge = purge-most σ s;
+      used-least = within-low 1 interfaceMost (getD c usedAt 0) u;
+      used-most = within-high 1 interfaceMost (getD c usedAt 0) u;
       rows = leb-true (getD c rowsAt 0) neighbourMost (and-left rows (records && size) b);
       records = leb-true (getD c recordsAt 0) (getD c capacityAt 0) (and-left records size d);
     }
@@ -151,14 +139,13 @@ module _ (c : List ℕ) (hd : headOk c ≡ true) (hi : interfacesOk c ≡ true) 
   unfolding interfacesOk
   free-interfaces = and-right (all interfaceRowOk rows) _ (and-left _ (differ (ownAddresses (configIn c))) hi)
 
-  own-differ : differ (ownAddresses (configIn c)) ≡ true
+  differs : differ (ownAddresses (configIn c)) ≡ true
   unfolding interfacesOk
-  own-differ = and-right (all interfaceRowOk rows && allZero (unusedInterfaces c)) _ hi
+  differs = and-right (all interfaceRowOk rows && allZero (unusedInterfaces c)) _ hi
 
-  pub configured-by : and (configTests (configIn c)) ≡ true
-  unfolding headOk settingsOk
+  pub configured-by : allowed (configIn c) ≡ true
+  unfolding headOk
   configured-by =
-      let t = and-at (settingsTests (configIn c .settings)) (and-left (and (settingsTests (configIn c .settings))) _ hd) in
       let u = head-sized c hd .used-least in
       let m = head-sized c hd .used-most in
       let e = used-length c in
@@ -166,7 +153,7 @@ module _ (c : List ℕ) (hd : headOk c ≡ true) (hi : interfacesOk c ≡ true) 
       let i : all (λ x. and (interfaceTests x)) (configIn c .interfaces) ≡ true =
       all-map (λ (r : InterfaceRow). r .0) (λ x. and (interfaceTests x)) (interfacesIn c) ∙ all-map decodeInterface (λ r. and (interfaceTests (r .0))) rows
       ∙ all-weaken interfaceRowOk _ (λ row k. row-tests row k .0) rows each-interface in
-      both (t 0) (both (t 1) (both (t 2) (both (t 3) (both (t 4) (both (both (le-leb 1 n (omega arith)) (le-leb n interfaceMost (omega arith))) (both i (both own-differ refl)))))))
+      allowed-by (configIn c) (and-left (settingsOk (settingsIn c)) _ hd) (both (le-leb 1 n (omega arith)) (le-leb n interfaceMost (omega arith))) i differs
 
   pub sends-by : all (λ e. and (sendTests (configIn c) e)) (sendsIn c) ≡ true
   sends-by =

@@ -2,7 +2,7 @@
 use mathlib.Core.Path.{_≡_, refl, sym, ap, _∙_}
 use mathlib.Core.List.{List, [], _∷_, map}
 use mathlib.Core.Bool.{Bool, true, false, _&&_, _||_, not}
-use Prim.Native.Nat.{ℕ, zero, suc, _+_, _*_, _≤_, _<_}
+use Prim.Native.Nat.{ℕ, zero, suc, _*_, _≤_, _<_}
 use native.Mathlib.Omega.{arith}
 use lib.Dec.{ltb, eqb}
 use lib.ListN.{take, getD}
@@ -24,7 +24,8 @@ ownIn c = getD c (ownPlace 0) 0 ∷ getD c (ownPlace 1) 0 ∷ getD c (ownPlace 2
 own-cells : (c : List ℕ) → column interfaceCells interfaceMost (interfacePart c) ≡ ownIn c
 own-cells c =
     let p = interfacePart c in
-    let k : (i : ℕ) → i < 4 → getD (column 5 4 p) i 0 ≡ getD c (9 + i * 5) 0 = λ i h. getD-column 5 4 p i (omega arith) h ∙ interface-cell c (i * 5) (omega arith) in
+    let k : (i : ℕ) → i < interfaceMost → getD (column interfaceCells interfaceMost p) i 0 ≡ getD c (ownPlace i) 0 =
+    λ i h. getD-column interfaceCells interfaceMost p i (omega arith) h ∙ interface-cell c (i * interfaceCells) (omega arith) in
     λ j. k 0 (omega arith) j ∷ k 1 (omega arith) j ∷ k 2 (omega arith) j ∷ k 3 (omega arith) j ∷ []
 
 -- those in use

@@ -18,7 +18,7 @@ use Rattle.cells.proofs.Trips.{rows-at, zero-at, length-rowsOf}
 use Rattle.cells.proofs.Lent.{part-is}
 use Rattle.window.specs.Window.{numbers}
 use Rattle.rules.specs.Settings.{interfaceMost, interfaceCells}
-use Rattle.table_layout.specs.Layout.{usedAt, lastAt, ownPlace, interfacePart}
+use Rattle.table_layout.specs.Layout.{usedAt, lastAt, interfacesFrom, ownPlace, interfacePart}
 use Rattle.table_settings.specs.Check.{interfaceRowTests, interfaceRowOk, interfacesOk}
 use Rattle.table_layout.specs.Facts.{Numbered}
 use Rattle.table_layout.proofs.Parts.{interface-cell}
@@ -26,8 +26,8 @@ use Rattle.table_layout.proofs.Parts.{interface-cell}
 -- row i in cells
 pub row-of : (c : List ℕ) (i j : ℕ) → i < interfaceMost → j < interfaceCells → getD (take interfaceCells (drop (i * interfaceCells) (interfacePart c))) j 0 ≡ getD c (ownPlace i + j) 0
 row-of c i j hi hj =
-    let e : 9 + (i * 5 + j) ≡ 9 + i * 5 + j = omega arith in
-    row-cell 5 (interfacePart c) (i * 5) j hj ∙ interface-cell c (i * 5 + j) (omega arith) ∙ ap (λ (k : ℕ). getD c k 0) e
+    let e : interfacesFrom + (i * interfaceCells + j) ≡ ownPlace i + j = omega arith in
+    row-cell interfaceCells (interfacePart c) (i * interfaceCells) j hj ∙ interface-cell c (i * interfaceCells + j) (omega arith) ∙ ap (λ (k : ℕ). getD c k 0) e
 
 -- last sent numbers are in their range
 pub numbered : (c : List ℕ) → getD c usedAt 0 ≤ interfaceMost → interfacesOk c ≡ true → Numbered c
@@ -48,12 +48,15 @@ numbered c few h = record { last = λ i k. go i k (ltb i (getD c usedAt 0)) refl
     go i k false e =
         let n = getD c usedAt 0 in
         let l = ltb-false i n e in
-        let m = mul-le-mul-right 5 l in
-        let z = zero-at (drop (n * 5) (interfacePart c)) (i * 5 + 4 - n * 5) (and-right (all interfaceRowOk (rowsOf interfaceCells n (interfacePart c))) _ (and-left _ _ h)) in
-        let f : n * 5 + (i * 5 + 4 - n * 5) ≡ i * 5 + 4 = omega arith in
-        let g : 9 + (i * 5 + 4) ≡ 9 + i * 5 + 4 = omega arith in
+        let w = interfaceCells in
+        let m = mul-le-mul-right w l in
+        -- the place of the number in its row, from the first unused cell on
+        let j = i * w + lastAt - n * w in
+        let z = zero-at (drop (n * w) (interfacePart c)) j (and-right (all interfaceRowOk (rowsOf w n (interfacePart c))) _ (and-left _ _ h)) in
+        let f : n * w + j ≡ i * w + lastAt = omega arith in
+        let g : interfacesFrom + (i * w + lastAt) ≡ ownPlace i + lastAt = omega arith in
         let v : getD c (ownPlace i + lastAt) 0 ≡ 0 =
-        ap (λ (k : ℕ). getD c k 0) (sym g) ∙ sym (interface-cell c (i * 5 + 4) (omega arith)) ∙ ap (λ (k : ℕ). getD (interfacePart c) k 0) (sym f) ∙ sym (getD-drop (n * 5) (interfacePart c) (i * 5 + 4 - n * 5) 0) ∙ z in
+        ap (λ (k : ℕ). getD c k 0) (sym g) ∙ sym (interface-cell c (i * w + lastAt) (omega arith)) ∙ ap (λ (k : ℕ). getD (interfacePart c) k 0) (sym f) ∙ sym (getD-drop (n * w) (interfacePart c) j 0) ∙ z in
         omega arith
 
 module _ (c : List ℕ) (at left : ℕ) (within : at + interfaceCells ≤ length c) (t : Bool) (e : t ≡ interfaceRowOk (take (at + interfaceCells - at) (drop at c))) where

@@ -6,27 +6,14 @@ use lib.Dec.{leb, eqb}
 use lib.ListN.{length, getD}
 use Rattle.lists.specs.Lists.{and, all}
 use Rattle.cells.specs.Area.{rowsOf, allZero}
-use Rattle.rules.specs.declared.Settings.{Settings}
-use Rattle.rules.specs.Settings.{versionMost, windowMost, timeoutMost, purgeMost, capacityMost, interfaceMost, neighbourMost, interfaceCells, isAddress, isNumber, within, differ, ownAddresses, cellsNeeded}
+use Rattle.rules.specs.Settings.{settingsOk, interfaceMost, neighbourMost, interfaceCells, isAddress, isNumber, within, differ, ownAddresses, cellsNeeded}
 use Rattle.table_layout.specs.Layout.{capacityAt, usedAt, rowsAt, recordsAt, ownAt, broadcastAt, firstAt, sentAt, lastAt, interfacePart}
-use Rattle.table_layout.specs.Cells.{configIn, unusedInterfaces}
-
-abbrev pub settingsTests : Settings → List Bool
-settingsTests σ =
-    within 0 versionMost (σ .version)
-    ∷ within 1 windowMost (σ .window)
-    ∷ within 1 timeoutMost (σ .timeout)
-    ∷ within 1 purgeMost (σ .purge)
-    ∷ within 1 capacityMost (σ .capacity)
-    ∷ []
-
-unfoldable pub settingsOk : Settings → Bool
-settingsOk σ = and (settingsTests σ)
+use Rattle.table_layout.specs.Cells.{settingsIn, configIn, unusedInterfaces}
 
 -- settings and the numbers of rows held, then how many cells there are
 unfoldable pub headOk : List ℕ → Bool
 headOk c =
-    settingsOk (configIn c .settings)
+    settingsOk (settingsIn c)
     && (within 1 interfaceMost (getD c usedAt 0)
     && (leb (getD c rowsAt 0) neighbourMost && (leb (getD c recordsAt 0) (getD c capacityAt 0) && eqb (length c) (cellsNeeded (getD c capacityAt 0)))))
 

@@ -39,8 +39,9 @@ ghost use Prim.Native.Nat.{_*_, _≤_};
 ghost use lib.ListN.{length, take, drop};
 ghost use Rattle.lists.specs.Lists.{all};
 ghost use Rattle.cells.specs.Area.{allZero, rowsOf};
-ghost use Rattle.rules.specs.Settings.{differ, interfaceMost, interfaceCells};
-ghost use Rattle.table_settings.specs.Check.{settingsOk, headOk, interfaceRowOk, interfacesOk};
+ghost use Rattle.rules.specs.Settings.{settingsOk, differ, interfaceMost, headCells, interfaceCells};
+ghost use Rattle.table_layout.specs.Cells.{settingsIn};
+ghost use Rattle.table_settings.specs.Check.{headOk, interfaceRowOk, interfacesOk};
 ghost use Rattle.table_layout.specs.Facts.{Sized};
 
 // Whether the settings are allowed.
@@ -48,10 +49,10 @@ pub fn settings_ok(s: Settings) -> bool
     ensures { λ r. ⌜ r ≡ settingsOk s ⌝ }
 {
     (s.version <= VERSION_MOST)
-        & (((1 <= s.window) & (s.window <= WINDOW_MOST))
-            & (((1 <= s.timeout) & (s.timeout <= TIMEOUT_MOST))
-                & (((1 <= s.purge) & (s.purge <= PURGE_MOST))
-                    & ((1 <= s.capacity) & (s.capacity <= CAPACITY_MOST)))))
+        & ((1 <= s.window) & (s.window <= WINDOW_MOST))
+        & ((1 <= s.timeout) & (s.timeout <= TIMEOUT_MOST))
+        & ((1 <= s.purge) & (s.purge <= PURGE_MOST))
+        & ((1 <= s.capacity) & (s.capacity <= CAPACITY_MOST))
 }
 
 // Whether the first `used` of four addresses differ.
@@ -63,6 +64,20 @@ pub fn own_differ(a: u64, b: u64, c: u64, d: u64, used: u64) -> bool
         & (((used < 3) | ((a != c) & (b != c))) & ((used < 4) | ((a != d) & ((b != d) & (c != d)))))
 }
 
+// The settings that the cells hold.
+pub fn settings_in(cells: &[u64]) -> Settings
+    requires { ⌜ headCells ≤ length (now cells) ⌝ }
+    ensures { λ r. ⌜ r ≡ settingsIn (now (cells .entry)) ⌝ }
+{
+    Settings {
+        version: cells[VERSION],
+        window: cells[WINDOW],
+        timeout: cells[TIMEOUT],
+        purge: cells[PURGE],
+        capacity: cells[CAPACITY],
+    }
+}
+
 // Whether the head is allowed, and the cells are as many as the capacity needs.
 pub fn head_ok(cells: &[u64]) -> bool
     ensures { λ r. ⌜ r ≡ headOk (now (cells .entry)) ⌝ }
@@ -70,13 +85,7 @@ pub fn head_ok(cells: &[u64]) -> bool
     if cells.len() < RECORDS_FROM {
         return false;
     }
-    let s = Settings {
-        version: cells[VERSION],
-        window: cells[WINDOW],
-        timeout: cells[TIMEOUT],
-        purge: cells[PURGE],
-        capacity: cells[CAPACITY],
-    };
+    let s = settings_in(cells);
     if !settings_ok(s) {
         return false;
     }
@@ -94,9 +103,11 @@ fn interface_row_ok(row: &[u64]) -> bool
     let sent = row[SENT];
     let last = row[LAST];
     (row[OWN] < ADDRESSES)
-        & ((row[BROADCAST] < ADDRESSES)
-            & ((row[FIRST] < NUMBERS)
-                & ((sent <= 1) & ((last < NUMBERS) & ((sent == 1) | (last == 0))))))
+        & (row[BROADCAST] < ADDRESSES)
+        & (row[FIRST] < NUMBERS)
+        & (sent <= 1)
+        & (last < NUMBERS)
+        & ((sent == 1) | (last == 0))
 }
 
 // Whether the rows of the interfaces in use are in their ranges, and the others zero.

@@ -1,15 +1,14 @@
+-- Head and records of an allowed capacity, and 0 for another.
 use Prim.Native.Nat.{_≤_}
 use native.Mathlib.Omega.{arith}
-use lib.Dec.{leb}
-use borrow.Author.Tests.{leb-true}
-use Rattle.lists.proofs.Tests.{and-right}
 use Rattle.rules.specs.Settings.{capacityMost}
+use Rattle.rules.proofs.Config.{within-high}
 use Rattle.call_make.proofs.Making.{needed-some, needed-none}
 use Rattle.call_make.proofs.cells_needed.Statement.{statement}
 use Rattle.call_make.proofs.cells_needed.Tie as tie
 
 few : (c : tie.Then1) → c .before .args .capacity ≤ capacityMost
-few c = let n = c .before .args .capacity in leb-true n capacityMost (and-right (leb 1 n) (leb n capacityMost) (c .if1 .taken))
+few c = within-high 1 capacityMost (c .before .args .capacity) (c .if1 .taken)
 
 mul-result : tie.Need-mul-result
 mul-result c = omega (arith, few c)

@@ -1,3 +1,4 @@
+-- A row in use as it is, another as zeros.
 use mathlib.Core.Path.{sym, ap}
 use mathlib.Core.Bool.{Bool, cond}
 use Rattle.call_make.specs.Make.{noInterface}

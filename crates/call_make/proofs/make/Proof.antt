@@ -1,12 +1,12 @@
+-- Make refuses by 12 exactly where it is not allowed, and else leaves the cells of a fresh table: zeros, the head and the interface rows written over them.
 use borrow.Author.Needs.{needs}
 use mathlib.Core.Path.{_≡_, sym, ap, _∙_}
 use mathlib.Core.Bool.{true}
 use native.Mathlib.Omega.{arith}
-use lib.Dec.{leb}
 use lib.ListN.{length}
-use borrow.Author.Tests.{leb-true, not-true, not-false}
-use Rattle.lists.proofs.Tests.{and-left, and-right}
+use borrow.Author.Tests.{not-true, not-false}
 use Rattle.rules.specs.Settings.{MakeArgs, makeAllowed, interfaceMost}
+use Rattle.rules.proofs.Config.{within-low, within-high}
 use Rattle.table_layout.specs.Calls.{Done}
 use Rattle.call_make.specs.Make.{makeArgs}
 use Rattle.call_make.proofs.Making.{allowed-used, allowed-size, length-fresh, fresh-cells, made-by, not-made}
@@ -16,40 +16,67 @@ use Rattle.call_make.proofs.make.Tie as tie
 abbrev given : tie.Start → MakeArgs
 given s = makeArgs (s .args .settings) (s .args .rows) (s .args .used)
 
-passed : (c : tie.Else1) → makeAllowed (length (c .before .before .before .args .cells .now)) (given (c .before .before .before)) ≡ true
+-- ---- places, from the end back
+
+abbrev headed : tie.After-interfaces → tie.After-write
+headed c = c .before .before .before .before
+
+abbrev cleared : tie.After-head → tie.After-clear
+cleared c = c .before .before .before .before
+
+abbrev filled : tie.After-clear → tie.After-fresh-rows
+filled c = c .before .before
+
+abbrev begun : tie.After-fresh-rows → tie.Else1
+begun c = c .before .before
+
+abbrev entry : tie.After-make-allowed → tie.Start
+entry c = c .before .before
+
+-- ---- what is known there
+
+passed : (c : tie.Else1) → makeAllowed (length (entry (c .before) .args .cells .now)) (given (entry (c .before))) ≡ true
 passed c = sym (c .before .make-allowed .ensures) ∙ not-false _ (c .if1 .left)
 
 returns : tie.Need-returns
 returns c =
-    let s = c .before .before .before in
+    let s = entry (c .before) in
     let e = not-made (s .args .cells .now) (given s) (sym (c .before .make-allowed .ensures) ∙ not-true _ (c .if1 .taken)) in
     (ap (λ (d : Done). d .reply) e, sym (ap (λ (d : Done). d .cells) e))
 
-fresh-head-requires : tie.Need-fresh-head-requires
-fresh-head-requires c κs =
-    let n = c .before .before .before .args .used in
-    let h = allowed-used (length (c .before .before .before .args .cells .now)) (given (c .before .before .before)) (passed c) in
-    (leb-true 1 n (and-left (leb 1 n) (leb n interfaceMost) h), leb-true n interfaceMost (and-right (leb 1 n) (leb n interfaceMost) h))
+fresh-rows-requires : tie.Need-fresh-rows-requires
+fresh-rows-requires c κs =
+    let s = entry (c .before .before) in
+    let h = allowed-used (length (s .args .cells .now)) (given s) (passed (c .before)) in
+    (within-low 1 interfaceMost (s .args .used) h, within-high 1 interfaceMost (s .args .used) h)
 
 write-requires : tie.Need-write-requires
 write-requires c κs =
-    let o = c .before .before .before .before .before .before .before in
-    let s = o .before .before .before in
-    let xs = s .args .cells .now in
-    let h = c .before .before .before .before .before .before .fresh-head in
-    let z = c .before .before .before .before .clear in
-    omega (arith, length-fresh (given s) (h .result) (h .ensures), allowed-size (length xs) (given s) (passed o), z .kept .0)
+    let f = filled (cleared c) in
+    let s = entry (begun f .before) in
+    omega (arith, ap length (f .before .fresh-head .ensures), allowed-size (length (s .args .cells .now)) (given s) (passed (begun f)), cleared c .clear .kept .0)
+
+write-requires-2 : tie.Need-write-requires-2
+write-requires-2 c κs =
+    let w = headed c in
+    let f = filled (cleared (w .before)) in
+    let s = entry (begun f .before) in
+    omega (arith, ap length (f .fresh-rows .ensures), length-fresh (s .args .rows) (s .args .used), allowed-size (length (s .args .cells .now)) (given s) (passed (begun f)), cleared (w .before) .clear .kept .0, w .write .kept .0)
 
 returns-2 : tie.Need-returns-2
 returns-2 c =
-    let o = c .before .before .before .before .before .before .before .before .before .before in
-    let s = o .before .before .before in
+    let b = c .before .before in
+    let w = headed (b .before) in
+    let z = cleared (w .before) in
+    let f = filled z in
+    let s = entry (begun f .before) in
     let xs = s .args .cells .now in
-    let e = made-by xs (given s) (passed o) in
-    let h = c .before .before .before .before .before .before .before .before .before .fresh-head in
-    let z = c .before .before .before .before .before .before .before .clear in
-    let w = c .before .before .write in
-    (ap (λ (d : Done). d .reply) e, fresh-cells (length xs) (given s) (z .last .0) (w .last .0) (h .result) (passed o) (z .ensures) (h .ensures) (w .ensures) ∙ sym (ap (λ (d : Done). d .cells) e))
+    let h = passed (begun f) in
+    let e = made-by xs (given s) h in (
+      ap (λ (d : Done). d .reply) e,
+      fresh-cells (length xs) (given s) (s .good .1 .1 .0 .1 .0 .1) h (z .clear .last .0) (w .write .last .0) (b .write2 .last .0) (f .before .fresh-head .result) (f .fresh-rows .result)
+          (z .clear .ensures) (f .before .fresh-head .ensures) (f .fresh-rows .ensures) (w .write .ensures) (b .write2 .ensures) ∙ sym (ap (λ (d : Done). d .cells) e),
+    )
 
 pub make-spec : {M : Type 1} → statement M
 make-spec =
@@ -57,9 +84,12 @@ make-spec =
     (tie.spec
     (λ c κs. search needs)
     returns
-    fresh-head-requires
+    (λ c κs. search needs)
+    fresh-rows-requires
     (λ c κs. search needs)
     (λ c. search needs)
     write-requires
+    (λ c. search needs)
+    write-requires-2
     (λ c. search needs)
     returns-2)

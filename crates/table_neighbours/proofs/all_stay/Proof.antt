@@ -1,4 +1,4 @@
--- `neighbours::all_stay` meets its contract: the loop's invariant is that the test of the rows to come is the test of all. Assumes nothing.
+-- The loop's invariant: the test of the rows to come is the test of all.
 use mathlib.Core.Path.{_≡_, refl, sym, ap, _∙_}
 use mathlib.Core.Logic.{⊎-elim}
 use mathlib.Core.Bool.{Bool, true, _&&_}
@@ -11,6 +11,7 @@ use denote.Ref.{now}
 use Rattle.lists.specs.Lists.{all}
 use Rattle.lists.proofs.Tests.{and-left, and-right}
 use Rattle.cells.specs.Pairs.{pairCells, pairsOf}
+use Rattle.window.specs.Window.{numbers}
 use Rattle.rules.specs.Settings.{isNumber}
 use Rattle.table_neighbours.specs.Neighbours.{staysAfter}
 use Rattle.table_neighbours.proofs.Rows.{size, all-one, all-none}
@@ -26,6 +27,10 @@ Inv-loop rows n interface last timeout at₀ left₀ at left =
 abbrev μ-loop : tie.MeasureT-loop
 μ-loop rows n interface last timeout at₀ left₀ at left = left
 
+-- the loop's test, from the end of a turn
+abbrev turn : tie.Else1 Inv-loop μ-loop → tie.At-loop Inv-loop μ-loop
+turn c = c .before .before .before .before .before
+
 loop-holds : tie.Need-loop-holds Inv-loop μ-loop
 loop-holds c = let s = c .before in (omega (arith, size (s .args .n) (s .args .rows .now) (s .pre), s .pre .most), s .pre .numbers, refl)
 
@@ -34,11 +39,11 @@ stays-requires c κs =
     let o = c .before .before .before in
     let xs = o .before .before .args .rows .now in
     let more = c .before .before .loop-test .taken in
-    ltb-true (getD xs (o .loop .at + 1) 0) 65536 (and-left (isNumber (getD xs (o .loop .at + 1) 0)) _ (sym (all-one xs (o .loop .at) (o .loop .left) more (λ e. isNumber (e .1))) ∙ o .loop .inv .1))
+    ltb-true (getD xs (o .loop .at + 1) 0) numbers (and-left (isNumber (getD xs (o .loop .at + 1) 0)) _ (sym (all-one xs (o .loop .at) (o .loop .left) more (λ e. isNumber (e .1))) ∙ o .loop .inv .1))
 
 loop-again : tie.Need-loop-again Inv-loop μ-loop
 loop-again c =
-    let o = c .before .before .before .before .before in
+    let o = turn c in
     let l = o .loop in
     let a = o .before .before .args in
     let xs = a .rows .now in

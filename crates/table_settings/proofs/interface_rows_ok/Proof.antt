@@ -1,3 +1,4 @@
+-- The loop's invariant: the test of the rows to come is the test of all; what follows the rows is zero.
 use borrow.Author.Needs.{needs}
 use mathlib.Core.Path.{_≡_, refl, sym, ap, _∙_}
 use Prim.Native.Nat.{ℕ, _+_, _*_, _-_}
@@ -24,10 +25,14 @@ abbrev μ-loop : tie.MeasureT-loop
 loop-holds : tie.Need-loop-holds Inv-loop μ-loop
 loop-holds c = (omega arith, refl)
 
+-- the loop's test, from the end of a turn
+abbrev turn : tie.Else1 Inv-loop μ-loop → tie.At-loop Inv-loop μ-loop
+turn c = c .before .before .before .before
+
 loop-again : tie.Need-loop-again Inv-loop μ-loop
 loop-again c =
-    let l = c .before .before .before .before .loop in
-    let p = c .before .before .before .before .before .before .args .part .now in
+    let l = turn c .loop in
+    let p = turn c .before .before .args .part .now in
     let ok = c .before .interface-row-ok in
     (omega arith, sym (interfaces-next p (l .at) (l .left) (omega arith) (ok .result) (ok .ensures) (omega arith) (not-false _ (c .if1 .left))) ∙ l .inv .1)
 

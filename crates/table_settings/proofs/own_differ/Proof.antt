@@ -1,3 +1,4 @@
+-- Each pair of the addresses in use differs.
 use native.Mathlib.Omega.{arith}
 use Rattle.table_settings.proofs.Own.{differ-is}
 use Rattle.table_settings.proofs.own_differ.Statement.{statement}

@@ -1,22 +1,37 @@
+-- The rows in use and zeros, cell by cell, are the area of the rows that none has sent from.
 use borrow.Author.Needs.{needs}
 use mir.Facts.{fits-widen}
 use Rattle.call_make.specs.Make.{noInterface}
-use Rattle.call_make.proofs.Making.{four, head-is}
-use Rattle.call_make.proofs.fresh_head.Statement.{statement}
-use Rattle.call_make.proofs.fresh_head.Tie as tie
+use Rattle.call_make.proofs.Making.{four, rows-are}
+use Rattle.call_make.proofs.fresh_rows.Statement.{statement}
+use Rattle.call_make.proofs.fresh_rows.Tie as tie
+
+-- ---- places, from the end back: the rows that are kept, and the entry
+
+abbrev fourth : tie.After-struct-known12 → tie.After-kept3
+fourth c = c .before .before .before .before .before .before .before .before .before .before .before .before
+
+abbrev third : tie.After-kept3 → tie.After-kept2
+third c = c .before .before
+
+abbrev second : tie.After-kept2 → tie.After-kept
+second c = c .before .before
+
+abbrev entry : tie.After-kept → tie.Start
+entry c = c .before .before .before
 
 returns : tie.Need-returns
 returns c =
-    let z = c .before .before .before .before .before .before .before .before .before .before .before .before in
-    let y = z .before .before in
-    let x = y .before .before in
-    let s = x .before .before .before in
-    let rows = s .args .t2 in
-    head-is (s .args .settings) rows (s .args .used) (s .pre .0) (s .pre .1) (four noInterface rows (s .good .1 .0 .1 .0 .1))
+    let z = fourth c in
+    let y = third z in
+    let x = second y in
+    let s = entry x in
+    let rows = s .args .t1 in
+    rows-are rows (s .args .used) (s .pre .0) (s .pre .1) (four noInterface rows (s .good .0 .1 .0 .1))
     (x .kept .result) (y .kept2 .result) (z .kept3 .result) (x .kept .ensures) (y .kept2 .ensures) (z .kept3 .ensures)
 
-pub fresh-head-spec : {M : Type 1} → statement M
-fresh-head-spec =
+pub fresh-rows-spec : {M : Type 1} → statement M
+fresh-rows-spec =
     tie.close
     (tie.spec
     (λ c. search needs)
