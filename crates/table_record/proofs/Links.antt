@@ -4,7 +4,7 @@ use mathlib.Core.List.{List, [], _∷_, _++_, map, append-nil}
 use mathlib.Core.Bool.{true}
 use mathlib.Core.Option.{Option}
 use Prim.Native.Nat.{ℕ, _+_, _*_, _-_, _≤_, _<_}
-use native.Mathlib.Nat.{add-zero}
+use native.Mathlib.Nat.{add-zero, sub-zero}
 use native.Mathlib.Numerals.{add-one}
 use native.Mathlib.Omega.{arith}
 use lib.ListN.{length, take, drop, set, getD, length-append, List·getD-map}
@@ -86,6 +86,21 @@ links-one part i left h =
 
 pub links-none : (part : List ℕ) (i left : ℕ) → left ≤ 0 → linksFrom left (drop (i * linkCells) part) ≡ []
 links-none part i left h = ap (map linkIn) (rows-none linkCells part (i * linkCells) left h)
+
+-- the links from place i on, of n
+abbrev pub linksLeft : (n : ℕ) → List ℕ → (i : ℕ) → List (ℕ × ℕ)
+linksLeft n part i = linksFrom (n - i) (drop (i * linkCells) part)
+
+pub left-all : (n : ℕ) (part : List ℕ) → linksLeft n part 0 ≡ linksFrom n part
+left-all n part = rw (sub-zero n)
+
+pub left-one : (n : ℕ) (part : List ℕ) (i : ℕ) → i < n → linksLeft n part i ≡ linkAt part i ∷ linksLeft n part (i + 1)
+left-one n part i h =
+    let e : n - i - 1 ≡ n - (i + 1) = omega arith in
+    links-one part i (n - i) (omega arith) ∙ ap (λ (k : ℕ). linkAt part i ∷ linksFrom k (drop ((i + 1) * linkCells) part)) e
+
+pub left-none : (n : ℕ) (part : List ℕ) (i : ℕ) → n ≤ i → linksLeft n part i ≡ []
+left-none n part i h = links-none part i (n - i) (omega arith)
 
 -- ---- a link written
 

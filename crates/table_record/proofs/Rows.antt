@@ -22,7 +22,7 @@ use Rattle.rules.specs.Calls.{neighbourOf, pairs}
 use Rattle.rules.specs.Table.{TableRecord}
 use Rattle.rules.specs.WellFormed.{linkTests, recordTests}
 use Rattle.table_record.specs.Links.{linkAreaCells, linkRow, linkArea, linksFrom}
-use Rattle.table_record.specs.Record.{currentAt, lastTtlAt, linksAt, bestAt, fieldsOf, encodeRecord, linksPart, linksOf, decodeRecord, unusedLinks, recordOk, Held}
+use Rattle.table_record.specs.Record.{addressAt, currentAt, timeAt, lastTtlAt, linksAt, bestAt, fieldsOf, encodeRecord, linksPart, linksOf, decodeRecord, unusedLinks, recordOk, Held}
 use Rattle.table_record.proofs.Links.{link-wide, links-trip, links-area, links-rest, length-links}
 
 -- a pair whose address is in its range
@@ -39,7 +39,7 @@ unfolding encodeRecord
 length-record e = length-append (fieldsOf e) (linkArea linkMost (e .1 .links)) ∙ ap (λ (k : ℕ). recordHeadCells + k) (length-area linkRow linkCells link-wide linkMost (e .1 .links))
 
 -- a record's key is its originator's address
-pub record-key : (row : List ℕ) → decodeRecord row .0 ≡ getD row 0 0
+pub record-key : (row : List ℕ) → decodeRecord row .0 ≡ getD row addressAt 0
 unfolding decodeRecord
 record-key row = refl
 
@@ -130,4 +130,4 @@ module _ (κ : Config) (now : ℕ) (row : List ℕ) (ok : recordOk κ now row �
         let n = getD row linksAt 0 in
         let part = linksPart row in
         let ls : linkArea linkMost (linksFrom n part) ≡ drop recordHeadCells row = links-trip linkMost n part (part-size row size) few record-unused ∙ part-rest row size in
-        (λ i. getD row 0 0 ∷ getD row 1 0 ∷ getD row 2 0 ∷ getD row 3 0 ∷ length-links n part i ∷ getD row 5 0 ∷ ls i) ∙ sym (cells-from 0 recordHeadCells row (omega arith))
+        (λ i. getD row addressAt 0 ∷ getD row currentAt 0 ∷ getD row timeAt 0 ∷ getD row lastTtlAt 0 ∷ length-links n part i ∷ getD row bestAt 0 ∷ ls i) ∙ sym (cells-from 0 recordHeadCells row (omega arith))
