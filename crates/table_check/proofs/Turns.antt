@@ -14,7 +14,6 @@ use Rattle.lists.specs.Lists.{maybe, and, all}
 use Rattle.lists.specs.Keyed.{lookup, rising}
 use Rattle.cells.specs.Area.{rowsOf, allZero, scan}
 use Rattle.cells.specs.Pairs.{pairOf}
-use Rattle.lists.proofs.Tests.{and-at}
 use Rattle.lists.proofs.Lists.{all-map, map-map}
 use Rattle.cells.proofs.Keys.{row-key, scan-next, scan-stop, scan-end, scan-is}
 use Rattle.cells.proofs.Trips.{rows-take, rows-at}
@@ -25,6 +24,7 @@ use Rattle.rules.specs.Settings.{Config, isAddress, isNumber, interfaceAt, inte
 use Rattle.rules.specs.Calls.{neighbourOf, interfaceOf}
 use Rattle.rules.specs.Rules.{lastSent}
 use Rattle.rules.specs.WellFormed.{rowTests}
+use Rattle.rules.proofs.Parts.{row-parts}
 use Rattle.table_record.specs.Record.{decodeRecord, recordOk, addressAt}
 use Rattle.table_record.proofs.Rows.{record-key}
 use Rattle.table_record.proofs.Rows.{small-pair}
@@ -109,7 +109,7 @@ neighbours-end c low at left h = scan-end (neighbourRow c) neighbourCells low c 
 
 -- a pair that passes is small
 pub neighbour-small : (c : List ℕ) (pair number : ℕ) → and (rowTests (configIn c) (sendsIn c) (pair, number)) ≡ true → pair < 17179869184
-neighbour-small c pair number h = ltb-true pair 17179869184 (small-pair pair ∙ and-at (rowTests (configIn c) (sendsIn c) (pair, number)) h 0)
+neighbour-small c pair number h = ltb-true pair 17179869184 (small-pair pair ∙ row-parts (configIn c) (sendsIn c) (pair, number) h .neighbour)
 
 pub neighbours-done : (c : List ℕ) (t z : Bool) → getD c rowsAt 0 ≤ neighbourMost → t ≡ neighbours-from c 0 neighboursFrom (getD c rowsAt 0) → (t ≡ true → z ≡ allZero (unusedRows c)) → t && z ≡ neighboursOk c
 unfolding neighboursOk
