@@ -21,7 +21,7 @@ use Rattle.wire.specs.declared.Header.{Header}
 use Rattle.wire.specs.Layout.{ttlAt, originatorAt}
 use Rattle.wire.specs.Packet.{octet, read4, header}
 use Rattle.wire.specs.Check.{firstOf}
-use Rattle.rules.specs.Settings.{Config, configOf, allowed, makeAllowed, neighbourMost, linkMost, interfaceMost, isOctet, isAddress, isNumber, isTime, isInUse, isOwn}
+use Rattle.rules.specs.Settings.{Config, configOf, allowed, makeAllowed, neighbourMost, linkMost, interfaceMost, octets, addresses, isOctet, isAddress, isNumber, isTime, isInUse, isOwn}
 use Rattle.rules.specs.Calls.{neighbourOf, interfaceOf, ReceiveArgs, OwnArgs, Call, make, receive, own, sweep, ask, list}
 use Rattle.rules.specs.declared.Ogm.{Ogm}
 use Rattle.rules.specs.Rules.{sequenceOf, Sends, hasSent, lastSent, nextNumber, sendOn, linkBy, message, echoTests, ownPacket, fresh, isExpired, answerBest, fillRows, send, purge, step}
@@ -217,17 +217,17 @@ module _ (cells : ℕ) (s : TableState) (w : Wf s) (r : ReceiveArgs) (t : typed 
   interface : isInUse κ (interfaceOf (linkBy r)) ≡ true
   interface = ap (isInUse κ) same-interface ∙ in-use
 
-  octet-lt : (k : ℕ) → octet (r .packet) k < 256
+  octet-lt : (k : ℕ) → octet (r .packet) k < octets
   octet-lt k =
-      ltb-true (octet (r .packet) k) 256 (all-at isOctet 0 refl (r .packet) (and-at (receiveTypes r) t 1) k)
+      ltb-true (octet (r .packet) k) octets (all-at isOctet 0 refl (r .packet) (and-at (receiveTypes r) t 1) k)
 
   originator : isAddress (h .originator) ≡ true
   unfolding header
-  originator = lt-ltb (read4 (r .packet) originatorAt) 4294967296 (omega (arith, octet-lt 8, octet-lt 9, octet-lt 10, octet-lt 11))
+  originator = lt-ltb (read4 (r .packet) originatorAt) addresses (omega (arith, octet-lt 8, octet-lt 9, octet-lt 10, octet-lt 11))
 
   ttl : isOctet (h .ttl) ≡ true
   unfolding header
-  ttl = lt-ltb (octet (r .packet) ttlAt) 256 (octet-lt ttlAt)
+  ttl = lt-ltb (octet (r .packet) ttlAt) octets (octet-lt ttlAt)
 
   -- an echo's row
   echoed : wouldEcho table s r h q ≡ true → Held (λ e. and (rowTests κ (s .sends) e)) neighbourMost (recordEcho κ (s .sends) (linkBy r) (s .rows))
