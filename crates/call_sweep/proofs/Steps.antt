@@ -4,7 +4,7 @@ use mathlib.Core.Bool.{Bool, true, false, cond, not}
 use mathlib.Core.List.{List, [], _∷_}
 use Prim.Native.Nat.{ℕ, suc, _+_, _-_, _≤_}
 use native.Mathlib.Omega.{arith}
-use borrow.Author.Tests.{le-leb}
+use borrow.Author.Tests.{leb-true, le-leb}
 use borrow.Rule.Slice.PartMut.{putMid}
 use lib.Dec.{leb}
 use lib.ListN.{length, take, drop, set, getD}
@@ -17,7 +17,7 @@ use Rattle.rules.specs.Rules.{isExpired, purge}
 use Rattle.rules.specs.Table.{TableRecord, table}
 use Rattle.rules.specs.WellFormed.{recordTests}
 use Rattle.rules.proofs.WellFormed.{Wf, parts}
-use Rattle.rules.proofs.Record.{record-time}
+use Rattle.rules.proofs.Parts.{record-parts}
 use Rattle.table_layout.specs.Layout.{purgeAt, capacityAt, timeAt, recordsAt, recordsFrom}
 use Rattle.table_layout.specs.Cells.{recordArea, encode, decode}
 use Rattle.table_layout.specs.Facts.{Knows}
@@ -67,7 +67,7 @@ module _ (c : List ℕ) (k : Knows c) (t : ℕ) (late : getD c timeAt 0 ≤ t) w
   past =
       let w : Wf (decode c) = parts (decode c) (k .valid) in
       all-weaken (λ e. and (recordTests (decode c .config) (decode c .time) e)) (λ e. leb (e .1 .time) t)
-      (λ e h. le-leb (e .1 .time) t (omega (arith, time-read c, record-time (decode c .config) (decode c .time) e h)))
+      (λ e h. le-leb (e .1 .time) t (omega (arith, time-read c, leb-true (e .1 .time) (decode c .time) (record-parts (decode c .config) (decode c .time) e h .time))))
       (decode c .records) (w .records .each)
 
   held : RecordsHeld (getD c recordsAt 0) t (drop recordsFrom c)

@@ -19,7 +19,8 @@ use Rattle.cells.proofs.Lent.{cells-from}
 use Rattle.rules.specs.Settings.{Config, linkMost, linkCells, recordHeadCells, linkAreaCells, recordCells, octets, addresses, isAddress}
 use Rattle.rules.specs.Calls.{neighbourOf, pairs}
 use Rattle.rules.specs.Table.{TableRecord}
-use Rattle.rules.proofs.Record.{record-few, record-current, record-ttl, record-rises, record-each, record-best}
+use Rattle.rules.proofs.Parts.{Entry, record-parts, few-links}
+use Rattle.window.specs.Window.{numbers}
 use Rattle.rules.specs.WellFormed.{linkTests, recordTests}
 use Rattle.table_record.specs.Links.{linkRow, linkArea, linksFrom}
 use Rattle.table_record.specs.Record.{addressAt, currentAt, timeAt, lastTtlAt, linksAt, bestAt, fieldsOf, encodeRecord, linksPart, linksOf, decodeRecord, unusedLinks, recordOk, Held}
@@ -66,7 +67,7 @@ record-back e h =
 
 -- a record that passes is decoded again
 pub valid-back : (κ : Config) (now : ℕ) (e : ℕ × TableRecord) → and (recordTests κ now e) ≡ true → decodeRecord (encodeRecord e) ≡ e
-valid-back κ now e h = record-back e (record-few κ now e h)
+valid-back κ now e h = record-back e (few-links κ now e (record-parts κ now e h))
 
 unused-zero : (e : ℕ × TableRecord) → allZero (unusedLinks (encodeRecord e)) ≡ true
 unfolding encodeRecord
@@ -84,19 +85,22 @@ module _ (κ : Config) (now : ℕ) (row : List ℕ) (ok : recordOk κ now row �
   unfolding recordOk
   record-valid = and-left (and (recordTests κ now (decodeRecord row))) (allZero (unusedLinks row)) ok
 
+  entry : Entry κ now (decodeRecord row)
+  entry = record-parts κ now (decodeRecord row) record-valid
+
   pub record-unused : allZero (unusedLinks row) ≡ true
   unfolding recordOk
   record-unused = and-right (and (recordTests κ now (decodeRecord row))) (allZero (unusedLinks row)) ok
 
   few : getD row linksAt 0 ≤ linkMost
   unfolding decodeRecord
-  few = subst (λ (k : ℕ). k ≤ linkMost) (length-links (getD row linksAt 0) (linksPart row)) (record-few κ now (decodeRecord row) record-valid)
+  few = subst (λ (k : ℕ). k ≤ linkMost) (length-links (getD row linksAt 0) (linksPart row)) (few-links κ now (decodeRecord row) entry)
 
   -- best is a held link's pair
   best-small : getD row bestAt 0 < pairs
   unfolding decodeRecord
   best-small =
-      go (lookup (getD row bestAt 0) (linksOf row)) refl (record-each κ now (decodeRecord row) record-valid) (record-best κ now (decodeRecord row) record-valid)
+      go (lookup (getD row bestAt 0) (linksOf row)) refl (entry .each) (entry .best)
     where
       go : (o : Option ℕ) → lookup (getD row bestAt 0) (linksOf row) ≡ o → all (λ l. and (linkTests κ (getD row bestAt 0) l)) (linksOf row) ≡ true → maybe o false (λ v. true) ≡ true → getD row bestAt 0 < pairs
       go none e a h = absurd (false≢true h)
@@ -108,14 +112,13 @@ module _ (κ : Config) (now : ℕ) (row : List ℕ) (ok : recordOk κ now row �
     pub record-held : Held row
     unfolding decodeRecord
     record-held =
-        let e = decodeRecord row in
         record {
           size = size;
-          current = record-current κ now e record-valid;
-          ttl = ltb-true (getD row lastTtlAt 0) octets (record-ttl κ now e record-valid);
+          current = ltb-true (getD row currentAt 0) numbers (entry .current);
+          ttl = ltb-true (getD row lastTtlAt 0) octets (entry .ttl);
           few = few;
           best = best-small;
-          rises = record-rises κ now e record-valid;
+          rises = entry .rise;
         }
 
     pub record-trip : encodeRecord (decodeRecord row) ≡ row
