@@ -7,7 +7,7 @@ use Prim.Native.Nat.{ℕ, _+_, _*_, _-_, _/_, _≤_, _<_}
 use native.Mathlib.Omega.{arith}
 use lib.Dec.{ltb}
 use lib.ListN.{length, drop, getD, length-append, length-drop}
-use lib.Seq.{take-all}
+use lib.Seq.{take-all, length-take-le}
 use borrow.Author.Tests.{lt-ltb, le-ltb, ltb-true, ltb-false}
 use Rattle.lists.specs.Lists.{maybe, and, all}
 use Rattle.lists.specs.Keyed.{lookup}
@@ -46,12 +46,8 @@ record-key row = refl
 
 -- ---- the cells of its links
 
--- links reach to the end of a row
-pub part-rest : (row : List ℕ) → length row ≡ recordCells → linksPart row ≡ drop recordHeadCells row
-part-rest row h = take-all linkAreaCells (drop recordHeadCells row) (rw (length-drop recordHeadCells row) (omega arith))
-
 pub part-size : (row : List ℕ) → length row ≡ recordCells → length (linksPart row) ≡ linkAreaCells
-part-size row h = ap length (part-rest row h) ∙ length-drop recordHeadCells row ∙ (omega arith)
+part-size row h = length-take-le linkAreaCells (drop recordHeadCells row) (rw (length-drop recordHeadCells row) (omega arith))
 
 pub part-encoded : (e : ℕ × TableRecord) → linksPart (encodeRecord e) ≡ linkArea linkMost (e .1 .links)
 unfolding encodeRecord
@@ -121,10 +117,14 @@ module _ (κ : Config) (now : ℕ) (row : List ℕ) (ok : recordOk κ now row �
           rises = entry .rise;
         }
 
+    -- links are the last part of a row
+    part-last : linksPart row ≡ drop recordHeadCells row
+    part-last = take-all linkAreaCells (drop recordHeadCells row) (rw (length-drop recordHeadCells row) (omega arith))
+
     pub record-trip : encodeRecord (decodeRecord row) ≡ row
     unfolding encodeRecord decodeRecord
     record-trip =
         let n = getD row linksAt 0 in
         let part = linksPart row in
-        let ls : linkArea linkMost (linksFrom n part) ≡ drop recordHeadCells row = links-trip linkMost n part (part-size row size) few record-unused ∙ part-rest row size in
+        let ls : linkArea linkMost (linksFrom n part) ≡ drop recordHeadCells row = links-trip linkMost n part (part-size row size) few record-unused ∙ part-last in
         (λ i. getD row addressAt 0 ∷ getD row currentAt 0 ∷ getD row timeAt 0 ∷ getD row lastTtlAt 0 ∷ length-links n part i ∷ getD row bestAt 0 ∷ ls i) ∙ sym (cells-from 0 recordHeadCells row (omega arith))
