@@ -7,6 +7,7 @@ ARCHIVE = target/staticlib/libbatman.a
 BUILD = target/c
 SANITIZE = -fsanitize=address,undefined -fno-sanitize-recover=all
 YARD = demo/yard.c demo/options.c demo/reader.c demo/radio.c demo/svg.c
+PLAYER = tests/player/play.c tests/player/script.c tests/player/words.c tests/player/lent.c
 TESTED = $(CC) $(CFLAGS) $(WARN) $(SANITIZE) -Iinclude
 
 .PHONY: demo test archive c-tests bench
@@ -28,14 +29,15 @@ test:
 	@tools/test
 
 # The tests in C and C++, over an archive that stands already. Their own side is built with sanitizers; the archive is as a daemon links it.
+# `tools/compare player` then holds the player that is built here beside the peer.
 c-tests:
 	@mkdir -p $(BUILD)
 	@$(TESTED) tests/packet_check.c $(ARCHIVE) -o $(BUILD)/packet_check
 	@$(BUILD)/packet_check tests/outside/batmand-0.3.2.txt tests/outside/batmand-as-draft.txt
 	@$(TESTED) tests/calls.c $(ARCHIVE) -o $(BUILD)/calls
 	@$(BUILD)/calls
-	@$(TESTED) tests/history.c tests/book.c $(ARCHIVE) -o $(BUILD)/history
-	@$(BUILD)/history
+	@$(TESTED) $(PLAYER) $(ARCHIVE) -o $(BUILD)/player
+	@$(BUILD)/player < crates/replay/stdin > $(BUILD)/player.out && diff crates/replay/stdout $(BUILD)/player.out && echo "player: prints what replay prints"
 	@$(CXX) $(CFLAGS) $(SANITIZE) -std=c++17 -Wall -Wextra -Werror -pedantic -Iinclude tests/cplusplus.cpp $(ARCHIVE) -o $(BUILD)/cplusplus
 	@$(BUILD)/cplusplus
 	@$(TESTED) examples/check.c $(ARCHIVE) -o $(BUILD)/check
@@ -48,5 +50,4 @@ c-tests:
 
 # Speed beside independent versions in C, as a ratio; no test depends on it.
 bench: archive
-	@bench/wellformed/run
 	@bench/calls/run

@@ -13,6 +13,10 @@
 extern "C" {
 #endif
 
+/* How many cells a table of this capacity lies in, from 1 to 256: a constant where the capacity is one, as for an array's size.
+ * batman_cells_needed answers the same, and 0 for a capacity that is not allowed. */
+#define BATMAN_CELLS(capacity) (BATMAN_TABLE_CELLS + BATMAN_RECORD_CELLS * (capacity))
+
 /* Sizes and limits. */
 enum batman_limit {
     BATMAN_HEADER_SIZE = 12,      /* octets of a message before its HNA entries */
@@ -22,7 +26,9 @@ enum batman_limit {
     BATMAN_NEIGHBOURS_MOST = 32,  /* neighbour rows held */
     BATMAN_LINKS_MOST = 8,        /* links held of one originator */
     BATMAN_CAPACITY_MOST = 256,   /* originators held */
-    BATMAN_CELLS_MOST = 5725      /* cells of a table of that capacity */
+    BATMAN_TABLE_CELLS = 93,      /* cells of a table before its records */
+    BATMAN_RECORD_CELLS = 22,     /* cells of a record, one for each originator of the capacity */
+    BATMAN_CELLS_MOST = BATMAN_CELLS(BATMAN_CAPACITY_MOST)
 };
 
 /* Why a call is refused. Each call gives the first that applies, in this order; 0 is no refusal. */
@@ -69,7 +75,7 @@ static inline uint64_t batman_refusal_place(uint64_t answer) { return answer / 2
 
 /* ---- the table
  *
- * A table lies in cells of 64 bits that the caller lends to every call: batman_cells_needed says how many, docs/LAYOUT.md how they are laid
+ * A table lies in cells of 64 bits that the caller lends to every call: BATMAN_CELLS says how many, docs/LAYOUT.md how they are laid
  * out. Every call but make and the packet check begins by checking the whole table: cells that are no well-formed table are refused by 1.
  * A refused call answers its number, every other field 0 (but the place for 8), and changes no cell, no octet and no row. */
 
@@ -90,7 +96,7 @@ struct batman_interface {
 
 /* Four rows, of which the first `used` are in use, 1 to 4; they are numbered from 0, and the others are ignored. */
 struct batman_interfaces {
-    struct batman_interface row[4];
+    struct batman_interface row[BATMAN_INTERFACES];
     uint64_t used;
 };
 

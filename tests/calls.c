@@ -6,7 +6,10 @@
 
 #include "batman.h"
 
-enum { CELLS = 93 + 22 * 64 };
+/* Places in a table that are looked at here, by docs/LAYOUT.md. */
+enum { VERSION_AT = 0, TIME_AT = 6, INTERFACES_AT = 9, INTERFACE_CELLS = 5 };
+
+enum { CELLS = BATMAN_CELLS(64) };
 
 static unsigned long compared, differing;
 
@@ -59,13 +62,19 @@ static void making(void)
     refused("a cell too few", s, f, CELLS - 1);
     refused("another capacity", (s.capacity = 63, s), f, CELLS), s = defaults;
     expect("make", batman_make(cells, CELLS, s, f), 0);
-    expect("cells for 64", batman_cells_needed(64), CELLS);
-    expect("cells for 0", batman_cells_needed(0), 0);
-    expect("cells for 257", batman_cells_needed(257), 0);
-    for (size_t i = 29; i < CELLS; i++)
-        expect("a cell after the interface rows", cells[i], 0);
-    for (size_t i = 19; i < 29; i++)
-        expect("a row beyond the number in use", cells[i], 0);
+    for (size_t i = INTERFACES_AT + INTERFACE_CELLS * f.used; i < CELLS; i++)
+        expect("a cell behind the interface rows in use", cells[i], 0);
+}
+
+/* The macro, which a constant needs, and the function say the same of every capacity that is allowed. */
+static void sizes(void)
+{
+    for (uint64_t capacity = 1; capacity <= BATMAN_CAPACITY_MOST; capacity++)
+        expect("cells needed", BATMAN_CELLS(capacity), batman_cells_needed(capacity));
+    expect("the parts of a sum as a capacity", BATMAN_CELLS(1 + 2), batman_cells_needed(3));
+    expect("the most cells", BATMAN_CELLS_MOST, batman_cells_needed(BATMAN_CAPACITY_MOST));
+    expect("cells for none", batman_cells_needed(0), 0);
+    expect("cells for 257", batman_cells_needed(BATMAN_CAPACITY_MOST + 1), 0);
 }
 
 static void sending(void)
@@ -114,8 +123,8 @@ static void asking_and_sweeping(void)
         uint64_t was = cells[i];
         cells[i] = UINT64_MAX;
         /* the time may be anything, and then the sweep is before it */
-        expect("a damaged cell", batman_sweep(cells, CELLS, 7).number, i == 6 ? 3 : 1);
-        expect("a damaged cell, best question", batman_best(cells, CELLS, 900).number, i == 6 ? 0 : 1);
+        expect("a damaged cell", batman_sweep(cells, CELLS, 7).number, i == TIME_AT ? BATMAN_TIME_BEFORE : BATMAN_NOT_WELL_FORMED);
+        expect("a damaged cell, best question", batman_best(cells, CELLS, 900).number, i == TIME_AT ? 0 : BATMAN_NOT_WELL_FORMED);
         cells[i] = was;
     }
     expect("a refused call changed a cell", memcmp(cells, kept, sizeof cells) != 0, 0);
@@ -123,7 +132,7 @@ static void asking_and_sweeping(void)
 
 /* ---- receiving: a table of its own, two interfaces, room for two originators, link timeout 1,000 */
 
-enum { US = 100, US_TOO = 101, BROADCAST = 255, SMALL = 93 + 22 * 2 };
+enum { US = 100, US_TOO = 101, BROADCAST = 255, SMALL = BATMAN_CELLS(2) };
 
 static uint64_t small[SMALL], small_kept[SMALL];
 static uint8_t output[BATMAN_PACKET_MOST];
@@ -161,9 +170,9 @@ static void packets_refused(void)
     turned_away("a mask of 33", packet, 22, 0, 9, 22, BATMAN_WRONG_MASK, 1);
     packet[0] = 5;
     turned_away("version 5", packet, 22, 0, 9, 22, BATMAN_WRONG_VERSION, 0);
-    small[0] = 256;
+    small[VERSION_AT] = 256;
     turned_away("a table not well-formed", packet, 22, 9, 0, 0, BATMAN_NOT_WELL_FORMED, 0);
-    small[0] = 4;
+    small[VERSION_AT] = 4;
 }
 
 /* Eight links of originator 900, rising by neighbour, the seventh heard first; and fewer rows, another originator, another table. */
@@ -187,6 +196,47 @@ static void listing(void)
         expect("a row that is best", rows[i].best, i + 1 == batman_best(small, SMALL, 900).route.neighbour);
     }
     expect("the row behind", memcmp(&rows[BATMAN_LINKS_MOST], &before[BATMAN_LINKS_MOST], sizeof rows[0]) != 0, 0);
+}
+
+/* ---- a table with one cell changed: each of its bits, by one, to the least and to the largest number */
+
+enum { CHANGES = 64 + 4 };
+
+static uint64_t changed(uint64_t cell, unsigned change)
+{
+    switch (change) {
+    case 64: return 0;
+    case 65: return UINT64_MAX;
+    case 66: return cell + 1;
+    case 67: return cell - 1;
+    default: return cell ^ (uint64_t)1 << change;
+    }
+}
+
+/* Every call judges the cells alike: 1 where the best question says so; else what is refused next, or nothing. None of them changes a cell. */
+static void judged_alike(void)
+{
+    const uint8_t packet[BATMAN_HEADER_SIZE] = {4};
+    struct batman_link_row rows[BATMAN_LINKS_MOST];
+    uint64_t best = batman_best(small, SMALL, 900).number, not_in_use = best ? best : BATMAN_NOT_IN_USE;
+    memcpy(small_kept, small, sizeof small);
+    expect("a changed table, best question", best > BATMAN_NOT_WELL_FORMED, 0);
+    expect("a changed table, list", batman_list(small, SMALL, 900, rows, BATMAN_LINKS_MOST).number, best);
+    expect("a changed table, receive", batman_receive(small, SMALL, packet, sizeof packet, 7, UINT64_MAX, 9, output, sizeof output).number, not_in_use);
+    expect("a changed table, own packet", batman_own_packet(small, SMALL, UINT64_MAX, 9, 50, 0, 0, NULL, 0, output, sizeof output).number, not_in_use);
+    expect("a changed table, sweep", batman_sweep(small, SMALL, 0).number, best ? best : small[TIME_AT] > 0 ? BATMAN_TIME_BEFORE : 0);
+    expect("a changed table is changed further", memcmp(small, small_kept, sizeof small) != 0, 0);
+}
+
+static void changed_tables(void)
+{
+    for (size_t i = 0; i < SMALL; i++)
+        for (unsigned change = 0; change < CHANGES; change++) {
+            uint64_t was = small[i];
+            small[i] = changed(was, change);
+            judged_alike();
+            small[i] = was;
+        }
 }
 
 static void verdicts(void)
@@ -225,6 +275,7 @@ static void verdicts(void)
     expect("a refused message changed a cell", memcmp(small, small_kept, sizeof small) != 0, 0);
     listing();
     packets_refused();
+    changed_tables();
     struct batman_swept swept = batman_sweep(small, SMALL, 640010);
     expect("swept", swept.removed, 2);
 }
@@ -239,6 +290,7 @@ static void all_came_up(void)
 
 int main(void)
 {
+    sizes();
     making();
     sending();
     asking_and_sweeping();

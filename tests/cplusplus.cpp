@@ -4,6 +4,8 @@
 #include <cstdio>
 #include <vector>
 
+static_assert(BATMAN_CELLS(BATMAN_CAPACITY_MOST) == BATMAN_CELLS_MOST, "BATMAN_CELLS of a constant is one");
+
 int main()
 {
     batman_settings settings = {4, 64, 32, 640000, 2};

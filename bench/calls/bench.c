@@ -12,7 +12,7 @@
 
 enum {
     VERSIONS = 5,
-    COMPARED = 200000, /* calls */
+    COMPARED = 1000000, /* calls */
     SLICES = 61,       /* of which the median is taken */
     LINKS = 8,
     MOST = 256,        /* originators */

@@ -5,14 +5,16 @@
 #include "calls.h"
 #include "wire.h"
 
+enum { OWN, BROADCAST, FIRST, SENT, LAST, INTERFACE };                            /* of an interface row, and its cells */
+enum { LINK = 2, LINK_MOST = BATMAN_LINKS_MOST, NEIGHBOUR = 2, NEIGHBOUR_MOST = BATMAN_NEIGHBOURS_MOST };
+enum { ADDRESS, CURRENT, SEEN, LAST_TTL, LINKS, BEST, LINKS_FROM, RECORD = LINKS_FROM + LINK * LINK_MOST }; /* of a record, and its cells */
 enum {
-    VERSION_AT, WINDOW_AT, TIMEOUT_AT, PURGE_AT, CAPACITY_AT, USED_AT, TIME_AT, ROWS_AT, RECORDS_AT,
-    INTERFACES_AT = 9, INTERFACE = 5, NEIGHBOURS_AT = 29, NEIGHBOUR = 2, NEIGHBOUR_MOST = 32, ALL_RECORDS_AT = 93, RECORD = 22
+    VERSION_AT, WINDOW_AT, TIMEOUT_AT, PURGE_AT, CAPACITY_AT, USED_AT, TIME_AT, ROWS_AT, RECORDS_AT, INTERFACES_AT,
+    NEIGHBOURS_AT = INTERFACES_AT + INTERFACE * BATMAN_INTERFACES, ALL_RECORDS_AT = NEIGHBOURS_AT + NEIGHBOUR * NEIGHBOUR_MOST
 };
-enum { OWN, BROADCAST, FIRST, SENT, LAST };                               /* of an interface row */
-enum { ADDRESS, CURRENT, SEEN, LAST_TTL, LINKS, BEST, LINKS_FROM, LINK = 2, LINK_MOST = 8 }; /* of a record */
+_Static_assert((int)ALL_RECORDS_AT == (int)BATMAN_TABLE_CELLS && (int)RECORD == (int)BATMAN_RECORD_CELLS, "the layout is the one of batman.h");
 
-static size_t cells_needed(uint64_t capacity) { return capacity >= 1 && capacity <= 256 ? ALL_RECORDS_AT + RECORD * (size_t)capacity : 0; }
+static size_t cells_needed(uint64_t capacity) { return capacity - 1 < BATMAN_CAPACITY_MOST ? (size_t)BATMAN_CELLS(capacity) : 0; }
 
 /* ---- the check */
 
@@ -26,13 +28,13 @@ static bool zeros(const uint64_t *from, const uint64_t *to)
 
 static bool settings_ok(uint64_t version, uint64_t window, uint64_t timeout, uint64_t purge, uint64_t capacity)
 {
-    return version <= 255 && window - 1 < 64 && timeout - 1 < 1000 && purge - 1 < UINT32_MAX && capacity - 1 < 256;
+    return version <= 255 && window - 1 < 64 && timeout - 1 < 1000 && purge - 1 < UINT32_MAX && capacity - 1 < BATMAN_CAPACITY_MOST;
 }
 
 static bool head_ok(const uint64_t *c, size_t count)
 {
     return count >= ALL_RECORDS_AT && settings_ok(c[VERSION_AT], c[WINDOW_AT], c[TIMEOUT_AT], c[PURGE_AT], c[CAPACITY_AT]) &&
-           c[USED_AT] - 1 < 4 && c[ROWS_AT] <= NEIGHBOUR_MOST && c[RECORDS_AT] <= c[CAPACITY_AT] && count == cells_needed(c[CAPACITY_AT]);
+           c[USED_AT] - 1 < BATMAN_INTERFACES && c[ROWS_AT] <= NEIGHBOUR_MOST && c[RECORDS_AT] <= c[CAPACITY_AT] && count == cells_needed(c[CAPACITY_AT]);
 }
 
 static bool interfaces_ok(const uint64_t *c)
@@ -63,7 +65,7 @@ static bool neighbours_ok(const uint64_t *c)
 
 /* What all records are held to: the own addresses, the first again for each that is not in use. */
 struct limits {
-    uint64_t most_marks, used, time, own[4];
+    uint64_t most_marks, used, time, own[BATMAN_INTERFACES];
 };
 
 /* Tests one after another: in a well-formed table none ever goes the other way but for a link without a mark, which is then best. */
@@ -99,7 +101,7 @@ static bool well_formed(const uint64_t *c, size_t count)
     if (!head_ok(c, count) || !interfaces_ok(c) || !neighbours_ok(c))
         return false;
     struct limits l = {UINT64_MAX >> (64 - c[WINDOW_AT]), c[USED_AT], c[TIME_AT], {0}};
-    for (uint64_t i = 0; i < 4; i++)
+    for (uint64_t i = 0; i < BATMAN_INTERFACES; i++)
         l.own[i] = c[INTERFACES_AT + INTERFACE * (i < l.used ? i : 0) + OWN];
     const uint64_t *r = c + ALL_RECORDS_AT, *end = r + RECORD * c[RECORDS_AT];
     uint64_t low = 0;
@@ -372,7 +374,7 @@ static size_t size(uint64_t capacity) { return cells_needed(capacity) * sizeof(u
 static uint64_t make(void *table, size_t count, struct batman_settings s, struct batman_interfaces f)
 {
     uint64_t *c = table;
-    if (!settings_ok(s.version, s.window, s.timeout, s.purge, s.capacity) || f.used - 1 >= 4 || count != cells_needed(s.capacity))
+    if (!settings_ok(s.version, s.window, s.timeout, s.purge, s.capacity) || f.used - 1 >= BATMAN_INTERFACES || count != cells_needed(s.capacity))
         return 12;
     for (uint64_t i = 0; i < f.used; i++)
         for (uint64_t j = 0; j < i; j++)

@@ -182,7 +182,7 @@ struct players {
     void *table[VERSIONS];
     uint64_t *spare[2];
     size_t count;
-    unsigned long calls, by_number[NUMBERS];
+    unsigned long calls, damaged, by_number[NUMBERS]; /* calls in all, and those of them on a damaged table */
 };
 
 static bool differ(const struct call *c, const struct version *v, const char *what, uint64_t is, uint64_t should)
@@ -207,14 +207,18 @@ static bool play_all(struct players *p, const struct call *c, struct result *fir
     return true;
 }
 
-/* Another value for a cell: an end of its range, an own address, or one bit changed at the edge of a field. */
+/* Another value for a cell: an end of its range, a neighbour, an own address, anything, or one bit changed, mostly at the edge of a field. */
 static uint64_t damaged(uint64_t cell)
 {
     static const uint64_t bits[] = {1, 2, 4, 0x100, 0x10000, (uint64_t)1 << 32, (uint64_t)1 << 34, (uint64_t)1 << 63};
-    switch (below(6)) {
+    switch (below(10)) {
     case 0: return 0;
     case 1: return UINT64_MAX;
-    case 2: return OWN_FROM + below(4);
+    case 2: return cell + 1;
+    case 3: return cell - 1;
+    case 4: return OWN_FROM + below(4);
+    case 5: return random_next(&state);
+    case 6: return cell ^ (uint64_t)1 << below(64);
     default: return cell ^ bits[below(8)];
     }
 }
@@ -223,32 +227,50 @@ static uint64_t damaged(uint64_t cell)
 static size_t damaged_place(size_t count)
 {
     switch (below(3)) {
-    case 0: return below(93);
-    case 1: return 93 + 22 * below((count - 93) / 22) + below(8);
+    case 0: return below(BATMAN_TABLE_CELLS);
+    case 1: return BATMAN_TABLE_CELLS + BATMAN_RECORD_CELLS * below((count - BATMAN_TABLE_CELLS) / BATMAN_RECORD_CELLS) + below(8);
     default: return below(count);
     }
 }
 
-/* A copy of the cells with one changed: the versions with cells must judge it alike, and leave the same cells. */
+/* What is done to the cells: one changed, now and then another one too, and now and then some of them not lent. */
+struct damage {
+    size_t at, also_at, count;
+    uint64_t cell, also_cell;
+};
+
+static struct damage draw_damage(const uint64_t *cells, size_t count)
+{
+    struct damage d = {.at = damaged_place(count), .count = seldom(16) ? below(count) : count};
+    d.also_at = seldom(8) ? damaged_place(count) : d.at;
+    d.cell = d.also_cell = damaged(cells[d.at]);
+    if (d.also_at != d.at)
+        d.also_cell = damaged(cells[d.also_at]);
+    return d;
+}
+
+/* A damaged copy of the cells: the versions with cells must judge it alike, and leave the same cells. */
 static bool play_damaged(struct players *p, const struct call *c)
 {
-    size_t octets = p->count * sizeof(uint64_t), at = damaged_place(p->count);
-    uint64_t changed = damaged(((uint64_t *)p->table[0])[at]);
+    size_t octets = p->count * sizeof(uint64_t);
+    struct damage d = draw_damage(p->table[0], p->count);
     struct result first = {0};
     for (int i = 0; i < p->n; i++) {
         uint64_t *cells = p->spare[i > 0];
         if (!p->version[i]->has_cells)
             continue;
         memcpy(cells, p->table[0], octets);
-        cells[at] = changed;
-        struct result r = play(p->version[i], cells, p->count - (at == 92), c);
+        cells[d.at] = d.cell;
+        cells[d.also_at] = d.also_cell;
+        struct result r = play(p->version[i], cells, d.count, c);
         if (i == 0)
             first = r;
-        p->by_number[r.number % NUMBERS] += i == 0;
-        p->calls += i == 0;
         if (memcmp(&r, &first, sizeof r) != 0 || memcmp(cells, p->spare[0], octets) != 0)
             return differ(c, p->version[i], "judgement of a damaged table", r.number, first.number);
     }
+    p->by_number[first.number % NUMBERS]++;
+    p->calls++;
+    p->damaged++;
     return true;
 }
 
@@ -262,7 +284,7 @@ static bool play_history(struct players *p)
         return false;
     for (int i = 0; i < HISTORY; i++) {
         c = seldom(100) ? draw_make(&h) : draw(&h);
-        if (c.kind != MAKE && c.kind != CHECK && seldom(8) && !play_damaged(p, &c))
+        if (c.kind != MAKE && c.kind != CHECK && seldom(3) && !play_damaged(p, &c))
             return false;
         if (!play_all(p, &c, &r))
             return false;
@@ -297,7 +319,8 @@ bool compare(const struct version *const *versions, int n, unsigned long calls)
         same = play_history(&p);
     same = same && every_number_came(&p);
     if (same)
-        printf("%lu calls on %d versions: the same answers, outputs and cells; every refusal and verdict came up\n", p.calls, n);
+        printf("%lu calls on %d versions, %lu of them on damaged tables: the same answers, outputs and cells; every refusal and verdict came up\n",
+               p.calls, n, p.damaged);
     for (int i = 0; i < n; i++)
         free(p.table[i]);
     free(p.spare[0]);

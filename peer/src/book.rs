@@ -2,6 +2,7 @@
 //! No marks are kept anywhere: every word (current, duplicate, count, best, held links) is
 //! computed from the lists of counted originator messages by `words.rs`.
 
+use crate::cells::cells_needed;
 use crate::packet::{self, Header, DIRECT, HEADER_OCTETS, UNIDIRECTIONAL};
 use crate::words::{self, Counted, Link, Words};
 use std::collections::BTreeMap;
@@ -85,12 +86,22 @@ pub struct BestAnswer {
 }
 
 /// What receive answers where it is not refused.
-#[derive(Clone, Debug, PartialEq)]
+#[derive(Clone, Debug, Default, PartialEq)]
 pub struct ReceiveAnswer {
     pub verdict: u64,
     pub other_flags: u8,
     pub best: BestAnswer,
     pub octets: Vec<u8>,
+}
+
+type Judged = Result<ReceiveAnswer, Refusal>;
+
+/// A verdict with nothing passed on; the best link comes to it when the call ends.
+fn verdict(verdict: u64) -> Judged {
+    Ok(ReceiveAnswer {
+        verdict,
+        ..ReceiveAnswer::default()
+    })
 }
 
 /// What an own packet answers where it is not refused.
@@ -111,23 +122,25 @@ pub struct ListRow {
 }
 
 /// The arguments of receive, the table aside.
-pub struct Receive<'a> {
+#[derive(Clone, Debug, PartialEq)]
+pub struct Receive {
     pub interface: u64,
     pub sender: u32,
     pub time: u64,
     pub output: u64,
-    pub packet: &'a [u8],
+    pub packet: Vec<u8>,
 }
 
 /// The arguments of an own packet, the table aside.
-pub struct Own<'a> {
+#[derive(Clone, Debug, PartialEq)]
+pub struct Own {
     pub interface: u64,
     pub time: u64,
     pub ttl: u8,
     pub gateway_flags: u8,
     pub gateway_port: u16,
     pub output: u64,
-    pub hna: &'a [u8],
+    pub hna: Vec<u8>,
 }
 
 pub struct Book {
@@ -139,15 +152,6 @@ pub struct Book {
     pub echoes: BTreeMap<Link, u64>,
     /// For each originator, the counted messages; a list is never left empty here.
     pub lists: BTreeMap<u32, Vec<Counted>>,
-}
-
-/// How many cells a capacity needs, 0 where it is not allowed.
-pub fn cells_needed(capacity: u64) -> u64 {
-    if (1..=CAPACITY_MOST).contains(&capacity) {
-        93 + 22 * capacity
-    } else {
-        0
-    }
 }
 
 impl Book {
@@ -259,7 +263,7 @@ impl Book {
             gateway_port: call.gateway_port,
             originator: self.settings.rows[call.interface as usize].own,
         };
-        let octets = packet::write(&header, call.hna);
+        let octets = packet::write(&header, &call.hna);
         Ok(OwnAnswer { sequence, octets })
     }
 
@@ -278,7 +282,7 @@ impl Book {
             return Err(refusal(4));
         }
         packet::length_fault(length)?;
-        packet::hna_fault(call.hna)?;
+        packet::hna_fault(&call.hna)?;
         if call.ttl < 2 {
             return Err(refusal(13));
         }
@@ -302,71 +306,53 @@ impl Book {
         if call.output < call.packet.len() as u64 {
             return Err(refusal(4));
         }
-        packet::fault(self.settings.version, call.packet)?;
-        let header = packet::read(call.packet);
+        packet::fault(self.settings.version, &call.packet)?;
+        let header = packet::read(&call.packet);
         let link = Link {
             neighbour: call.sender,
             interface: call.interface as u8,
         };
-        let mut answer = ReceiveAnswer {
-            verdict: 0,
-            other_flags: 0,
-            best: BestAnswer::default(),
-            octets: Vec::new(),
-        };
-        answer.verdict = self.judge(call, &header, link, &mut answer)?;
+        let mut answer = self.judge(call, &header, link)?;
         self.time = call.time;
         answer.best = self.best(header.originator);
         Ok(answer)
     }
 
-    /// The five steps of receiving: the verdict, or refusal 9, 10 or 11.
-    fn judge(
-        &mut self,
-        call: &Receive,
-        header: &Header,
-        link: Link,
-        answer: &mut ReceiveAnswer,
-    ) -> Result<u64, Refusal> {
+    /// The five steps of receiving: the verdict with what is passed on, or refusal 9, 10 or 11.
+    fn judge(&mut self, call: &Receive, header: &Header, link: Link) -> Judged {
         if self.settings.is_own(call.sender) {
-            return Ok(20);
+            return verdict(20);
         }
         if self.settings.is_broadcast(call.sender) {
-            return Ok(21);
+            return verdict(21);
         }
         if self.settings.is_own(header.originator) {
             return self.echo(header, link);
         }
         if header.flags & UNIDIRECTIONAL != 0 {
-            return Ok(24);
+            return verdict(24);
         }
-        self.count_and_pass_on(call, header, link, answer)
+        self.count_and_pass_on(call, header, link)
     }
 
     /// Step 3: an own message comes back.
-    fn echo(&mut self, header: &Header, link: Link) -> Result<u64, Refusal> {
+    fn echo(&mut self, header: &Header, link: Link) -> Judged {
         let interface = usize::from(link.interface);
         let accepted = header.flags & DIRECT != 0
             && header.originator == self.settings.rows[interface].own
             && self.last[interface] == Some(header.number);
         if !accepted {
-            return Ok(23);
+            return verdict(23);
         }
         if !self.has_row(link) && self.rows().count() >= NEIGHBOURS_MOST {
             return Err(refusal(9));
         }
         self.echoes.insert(link, 0);
-        Ok(22)
+        verdict(22)
     }
 
     /// Step 5: the two questions, counted and passed on.
-    fn count_and_pass_on(
-        &mut self,
-        call: &Receive,
-        header: &Header,
-        link: Link,
-        answer: &mut ReceiveAnswer,
-    ) -> Result<u64, Refusal> {
+    fn count_and_pass_on(&mut self, call: &Receive, header: &Header, link: Link) -> Judged {
         let window = self.settings.window;
         let list = self.list_of(header.originator);
         let bidirectional = self.has_row(link);
@@ -380,11 +366,14 @@ impl Book {
         let direct = call.sender == header.originator;
         let lowest = if cfg!(wrong = "ttl") { 1 } else { 2 };
         if header.ttl < lowest || !(direct || relay) {
-            return Ok(25);
+            return verdict(25);
         }
-        answer.other_flags = header.flags & !(UNIDIRECTIONAL | DIRECT);
-        answer.octets = pass_on(call.packet, header, direct, bidirectional);
-        Ok(26)
+        Ok(ReceiveAnswer {
+            verdict: 26,
+            other_flags: header.flags & !(UNIDIRECTIONAL | DIRECT),
+            octets: pass_on(&call.packet, header, direct, bidirectional),
+            ..ReceiveAnswer::default()
+        })
     }
 
     /// Adds one message to its originator's list, or refuses by 10 or 11.

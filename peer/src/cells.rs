@@ -1,19 +1,95 @@
-//! The book as cells, by docs/LAYOUT.md, and whether cells are a well-formed table, by
-//! document 01's paragraph of that name.
+//! Where a table's words lie in its cells, by docs/LAYOUT.md: every place is named here and
+//! nowhere else. The book as cells, and whether cells are a well-formed table, by document
+//! 01's paragraph of that name.
 
-use crate::book::{cells_needed, Book, INTERFACES_MOST, LINKS_MOST, NEIGHBOURS_MOST};
+use crate::book::{Book, CAPACITY_MOST, INTERFACES_MOST, LINKS_MOST, NEIGHBOURS_MOST};
 use crate::words::{self, Counted, Link};
 
-pub const TIME: usize = 6;
-pub const NEIGHBOURS_HELD: usize = 7;
-pub const ORIGINATORS_HELD: usize = 8;
-pub const INTERFACES: usize = 9;
-pub const INTERFACE_CELLS: usize = 5;
-pub const NEIGHBOURS: usize = 29;
-pub const NEIGHBOUR_CELLS: usize = 2;
-pub const RECORDS: usize = 93;
-pub const RECORD_CELLS: usize = 22;
-pub const RECORD_LINKS: usize = 6;
+/// The settings and numbers at the start of a table, a cell each.
+pub mod head {
+    pub const VERSION: usize = 0;
+    pub const WINDOW: usize = 1;
+    pub const TIMEOUT: usize = 2;
+    pub const PURGE: usize = 3;
+    pub const CAPACITY: usize = 4;
+    pub const USED: usize = 5;
+    pub const TIME: usize = 6;
+    pub const NEIGHBOURS_HELD: usize = 7;
+    pub const ORIGINATORS_HELD: usize = 8;
+    pub const CELLS: usize = 9;
+}
+
+/// The cells of an interface row.
+pub mod interface {
+    pub const OWN: usize = 0;
+    pub const BROADCAST: usize = 1;
+    pub const FIRST: usize = 2;
+    pub const SENT: usize = 3;
+    pub const LAST: usize = 4;
+    pub const CELLS: usize = 5;
+}
+
+/// The cells of a neighbour row.
+pub mod neighbour {
+    pub const KEY: usize = 0;
+    pub const NUMBER: usize = 1;
+    pub const CELLS: usize = 2;
+}
+
+/// The cells of a record.
+pub mod record {
+    pub const ORIGINATOR: usize = 0;
+    pub const CURRENT: usize = 1;
+    pub const TIME: usize = 2;
+    pub const TTL: usize = 3;
+    pub const LINKS_HELD: usize = 4;
+    pub const BEST: usize = 5;
+    pub const LINKS: usize = 6;
+    pub const CELLS: usize = LINKS + crate::book::LINKS_MOST * super::link::CELLS;
+}
+
+/// The cells of a link in a record.
+pub mod link {
+    pub const KEY: usize = 0;
+    pub const MARKS: usize = 1;
+    pub const CELLS: usize = 2;
+}
+
+/// The interface rows, the neighbour rows and the records follow the head in this order.
+const INTERFACES: usize = head::CELLS;
+const NEIGHBOURS: usize = INTERFACES + INTERFACES_MOST * interface::CELLS;
+pub const RECORDS: usize = NEIGHBOURS + NEIGHBOURS_MOST * neighbour::CELLS;
+
+pub fn interface_at(place: usize) -> usize {
+    INTERFACES + interface::CELLS * place
+}
+
+pub fn neighbour_at(place: usize) -> usize {
+    NEIGHBOURS + neighbour::CELLS * place
+}
+
+pub fn record_at(place: usize) -> usize {
+    RECORDS + record::CELLS * place
+}
+
+/// Where a link lies in its record.
+pub fn link_at(place: usize) -> usize {
+    record::LINKS + link::CELLS * place
+}
+
+/// How many cells a capacity needs, 0 where it is not allowed.
+pub fn cells_needed(capacity: u64) -> u64 {
+    if (1..=CAPACITY_MOST).contains(&capacity) {
+        record_at(capacity as usize) as u64
+    } else {
+        0
+    }
+}
+
+/// The largest capacity that this many cells, at least the fixed part, have room for.
+pub fn capacity_of(cells: u64) -> u64 {
+    (cells - RECORDS as u64) / record::CELLS as u64
+}
 
 const ADDRESS_END: u64 = 1 << 32;
 const NUMBER_END: u64 = 1 << 16;
@@ -27,29 +103,29 @@ pub fn key(link: Link) -> u64 {
 pub fn encode(book: &Book, cells: &mut [u64]) {
     cells.fill(0);
     let settings = &book.settings;
-    cells[0] = settings.version;
-    cells[1] = settings.window;
-    cells[2] = settings.timeout;
-    cells[3] = settings.purge;
-    cells[4] = settings.capacity;
-    cells[5] = settings.used;
-    cells[TIME] = book.time;
-    cells[NEIGHBOURS_HELD] = book.rows().count() as u64;
-    cells[ORIGINATORS_HELD] = book.lists.len() as u64;
-    for (interface, row) in settings.rows_in_use().iter().enumerate() {
-        let at = INTERFACES + INTERFACE_CELLS * interface;
-        cells[at] = u64::from(row.own);
-        cells[at + 1] = u64::from(row.broadcast);
-        cells[at + 2] = u64::from(row.first);
-        cells[at + 3] = u64::from(book.last[interface].is_some());
-        cells[at + 4] = u64::from(book.last[interface].unwrap_or(0));
+    cells[head::VERSION] = settings.version;
+    cells[head::WINDOW] = settings.window;
+    cells[head::TIMEOUT] = settings.timeout;
+    cells[head::PURGE] = settings.purge;
+    cells[head::CAPACITY] = settings.capacity;
+    cells[head::USED] = settings.used;
+    cells[head::TIME] = book.time;
+    cells[head::NEIGHBOURS_HELD] = book.rows().count() as u64;
+    cells[head::ORIGINATORS_HELD] = book.lists.len() as u64;
+    for (place, row) in settings.rows_in_use().iter().enumerate() {
+        let at = interface_at(place);
+        cells[at + interface::OWN] = u64::from(row.own);
+        cells[at + interface::BROADCAST] = u64::from(row.broadcast);
+        cells[at + interface::FIRST] = u64::from(row.first);
+        cells[at + interface::SENT] = u64::from(book.last[place].is_some());
+        cells[at + interface::LAST] = u64::from(book.last[place].unwrap_or(0));
     }
     for (place, (link, since)) in book.rows().enumerate() {
-        let at = NEIGHBOURS + NEIGHBOUR_CELLS * place;
-        cells[at] = key(link);
-        cells[at + 1] = recorded(book, link, since);
+        let at = neighbour_at(place);
+        cells[at + neighbour::KEY] = key(link);
+        cells[at + neighbour::NUMBER] = recorded(book, link, since);
     }
-    let records = cells[RECORDS..].chunks_exact_mut(RECORD_CELLS);
+    let records = cells[RECORDS..].chunks_exact_mut(record::CELLS);
     for ((originator, list), record) in book.lists.iter().zip(records) {
         encode_record(*originator, list, settings.window, record);
     }
@@ -69,16 +145,17 @@ fn encode_record(originator: u32, list: &[Counted], window: u64, record: &mut [u
     ) else {
         return;
     };
-    record[0] = u64::from(originator);
-    record[1] = u64::from(current);
-    record[2] = last.time;
-    record[3] = u64::from(last.ttl);
-    record[4] = words.held.len() as u64;
-    record[5] = key(words.best);
+    record[record::ORIGINATOR] = u64::from(originator);
+    record[record::CURRENT] = u64::from(current);
+    record[record::TIME] = last.time;
+    record[record::TTL] = u64::from(last.ttl);
+    record[record::LINKS_HELD] = words.held.len() as u64;
+    record[record::BEST] = key(words.best);
     let marks = words::marks(list, window);
     for (place, (link, _)) in words.held.iter().enumerate() {
-        record[RECORD_LINKS + 2 * place] = key(*link);
-        record[RECORD_LINKS + 2 * place + 1] = marks
+        let at = link_at(place);
+        record[at + link::KEY] = key(*link);
+        record[at + link::MARKS] = marks
             .iter()
             .filter(|(other, _)| other == link)
             .fold(0, |word, (_, number)| {
@@ -98,38 +175,38 @@ pub fn well_formed(cells: &[u64]) -> bool {
 }
 
 fn settings_well_formed(cells: &[u64]) -> bool {
-    let needed = cells_needed(cells[4]);
+    let needed = cells_needed(cells[head::CAPACITY]);
     needed != 0
         && cells.len() as u64 == needed
-        && cells[0] <= 255
-        && (1..=64).contains(&cells[1])
-        && (1..=1000).contains(&cells[2])
-        && (1..ADDRESS_END).contains(&cells[3])
-        && (1..=INTERFACES_MOST as u64).contains(&cells[5])
-        && cells[NEIGHBOURS_HELD] <= NEIGHBOURS_MOST as u64
-        && cells[ORIGINATORS_HELD] <= cells[4]
+        && cells[head::VERSION] <= 255
+        && (1..=64).contains(&cells[head::WINDOW])
+        && (1..=1000).contains(&cells[head::TIMEOUT])
+        && (1..ADDRESS_END).contains(&cells[head::PURGE])
+        && (1..=INTERFACES_MOST as u64).contains(&cells[head::USED])
+        && cells[head::NEIGHBOURS_HELD] <= NEIGHBOURS_MOST as u64
+        && cells[head::ORIGINATORS_HELD] <= cells[head::CAPACITY]
 }
 
-/// The five cells of an interface row.
-fn interface_row(cells: &[u64], interface: usize) -> &[u64] {
-    let at = INTERFACES + INTERFACE_CELLS * interface;
-    &cells[at..at + INTERFACE_CELLS]
+/// The cells of an interface row.
+fn interface_row(cells: &[u64], place: usize) -> &[u64] {
+    &cells[interface_at(place)..interface_at(place + 1)]
 }
 
 fn interfaces_well_formed(cells: &[u64]) -> bool {
-    let used = cells[5] as usize;
-    (0..INTERFACES_MOST).all(|interface| {
-        let row = interface_row(cells, interface);
-        if interface >= used {
+    let used = cells[head::USED] as usize;
+    (0..INTERFACES_MOST).all(|place| {
+        let row = interface_row(cells, place);
+        if place >= used {
             return zeros(row);
         }
-        row[0] < ADDRESS_END
-            && row[1] < ADDRESS_END
-            && row[2] < NUMBER_END
-            && row[3] <= 1
-            && row[4] < NUMBER_END
-            && (row[3] == 1 || row[4] == 0)
-            && (0..interface).all(|other| interface_row(cells, other)[0] != row[0])
+        let own = row[interface::OWN];
+        own < ADDRESS_END
+            && row[interface::BROADCAST] < ADDRESS_END
+            && row[interface::FIRST] < NUMBER_END
+            && row[interface::SENT] <= 1
+            && row[interface::LAST] < NUMBER_END
+            && (row[interface::SENT] == 1 || row[interface::LAST] == 0)
+            && (0..place).all(|other| interface_row(cells, other)[interface::OWN] != own)
     })
 }
 
@@ -137,36 +214,38 @@ fn zeros(cells: &[u64]) -> bool {
     cells.iter().all(|cell| *cell == 0)
 }
 
+/// Whether rows, each with its key in its first cell, rise.
+fn rise(rows: &[&[u64]]) -> bool {
+    rows.windows(2).all(|pair| pair[0][0] < pair[1][0])
+}
+
 /// Whether a key's address is in range and its interface in use.
 fn key_well_formed(cells: &[u64], key: u64) -> bool {
-    key / 4 < ADDRESS_END && key % 4 < cells[5]
+    key / 4 < ADDRESS_END && key % 4 < cells[head::USED]
 }
 
 fn neighbours_well_formed(cells: &[u64]) -> bool {
-    let held = cells[NEIGHBOURS_HELD] as usize;
-    let rows: Vec<&[u64]> = cells[NEIGHBOURS..RECORDS].chunks(NEIGHBOUR_CELLS).collect();
-    let (held_rows, unused) = rows.split_at(held);
-    held_rows.windows(2).all(|pair| pair[0][0] < pair[1][0])
-        && held_rows
-            .iter()
-            .all(|row| neighbour_well_formed(cells, row))
-        && unused.iter().all(|row| zeros(row))
+    let held = cells[head::NEIGHBOURS_HELD] as usize;
+    let (held_cells, unused) = cells[NEIGHBOURS..RECORDS].split_at(held * neighbour::CELLS);
+    let rows: Vec<&[u64]> = held_cells.chunks(neighbour::CELLS).collect();
+    rise(&rows) && rows.iter().all(|row| neighbour_well_formed(cells, row)) && zeros(unused)
 }
 
 fn neighbour_well_formed(cells: &[u64], row: &[u64]) -> bool {
-    if !key_well_formed(cells, row[0]) || row[1] >= NUMBER_END {
+    let (key, number) = (row[neighbour::KEY], row[neighbour::NUMBER]);
+    if !key_well_formed(cells, key) || number >= NUMBER_END {
         return false;
     }
-    let interface = interface_row(cells, (row[0] % 4) as usize);
-    let distance = (interface[4] + NUMBER_END - row[1]) % NUMBER_END;
-    interface[3] == 1 && distance < cells[2]
+    let sender = interface_row(cells, (key % 4) as usize);
+    let distance = (sender[interface::LAST] + NUMBER_END - number) % NUMBER_END;
+    sender[interface::SENT] == 1 && distance < cells[head::TIMEOUT]
 }
 
 fn records_well_formed(cells: &[u64]) -> bool {
-    let held = cells[ORIGINATORS_HELD] as usize;
-    let (held_cells, unused) = cells[RECORDS..].split_at(held * RECORD_CELLS);
-    let records: Vec<&[u64]> = held_cells.chunks(RECORD_CELLS).collect();
-    records.windows(2).all(|pair| pair[0][0] < pair[1][0])
+    let held = cells[head::ORIGINATORS_HELD] as usize;
+    let (held_cells, unused) = cells[RECORDS..].split_at(held * record::CELLS);
+    let records: Vec<&[u64]> = held_cells.chunks(record::CELLS).collect();
+    rise(&records)
         && records
             .iter()
             .all(|record| record_well_formed(cells, record))
@@ -174,26 +253,32 @@ fn records_well_formed(cells: &[u64]) -> bool {
 }
 
 fn record_well_formed(cells: &[u64], record: &[u64]) -> bool {
-    let used = cells[5] as usize;
-    record[0] < ADDRESS_END
-        && (0..used).all(|interface| interface_row(cells, interface)[0] != record[0])
-        && record[1] < NUMBER_END
-        && record[2] <= cells[TIME]
-        && record[3] <= 255
-        && (1..=LINKS_MOST as u64).contains(&record[4])
+    let originator = record[record::ORIGINATOR];
+    let used = cells[head::USED] as usize;
+    originator < ADDRESS_END
+        && (0..used).all(|place| interface_row(cells, place)[interface::OWN] != originator)
+        && record[record::CURRENT] < NUMBER_END
+        && record[record::TIME] <= cells[head::TIME]
+        && record[record::TTL] <= 255
+        && (1..=LINKS_MOST as u64).contains(&record[record::LINKS_HELD])
         && links_well_formed(cells, record)
 }
 
 fn links_well_formed(cells: &[u64], record: &[u64]) -> bool {
-    let best = record[5];
-    let held = record[4] as usize;
-    let (held_cells, unused) = record[RECORD_LINKS..].split_at(2 * held);
-    let links: Vec<&[u64]> = held_cells.chunks(2).collect();
-    let fits = |marks: u64| cells[1] == 64 || marks >> cells[1] == 0;
-    links.windows(2).all(|pair| pair[0][0] < pair[1][0])
-        && links.iter().all(|link| key_well_formed(cells, link[0]))
-        && links.iter().all(|link| fits(link[1]))
-        && links.iter().all(|link| link[1] != 0 || link[0] == best)
-        && links.iter().any(|link| link[0] == best)
+    let window = cells[head::WINDOW];
+    let best = record[record::BEST];
+    let held = record[record::LINKS_HELD] as usize;
+    let (held_cells, unused) = record[record::LINKS..].split_at(held * link::CELLS);
+    let links: Vec<&[u64]> = held_cells.chunks(link::CELLS).collect();
+    let fits = |marks: u64| window == 64 || marks >> window == 0;
+    let is_best = |link: &&[u64]| link[link::KEY] == best;
+    rise(&links)
+        && links
+            .iter()
+            .all(|link| key_well_formed(cells, link[link::KEY]) && fits(link[link::MARKS]))
+        && links
+            .iter()
+            .all(|link| link[link::MARKS] != 0 || is_best(link))
+        && links.iter().any(is_best)
         && zeros(unused)
 }

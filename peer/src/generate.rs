@@ -8,7 +8,8 @@ mod odd;
 mod random;
 mod stage;
 
-use crate::book::{cells_needed, Book, Settings};
+use crate::book::{Book, Settings};
+use crate::cells::cells_needed;
 use crate::play::{self, Player};
 use crate::script::{self, Call, Line};
 use crate::words::Link;
@@ -18,6 +19,8 @@ use std::io::{self, Write};
 
 pub struct Generator<'a> {
     random: Random,
+    /// For what a make finds in its cells: whatever this is, all else of a script stays.
+    found: Random,
     player: Player,
     output: &'a mut dyn Write,
     line: u64,
@@ -31,6 +34,7 @@ pub struct Generator<'a> {
 pub fn generate(seed: u64, calls: u64, output: &mut dyn Write) -> io::Result<()> {
     let mut generator = Generator {
         random: Random::new(seed),
+        found: Random::new(!seed),
         player: Player::new(),
         output,
         line: 0,
@@ -131,7 +135,7 @@ impl Generator<'_> {
         if self.player.lent as u64 != cells_needed(settings.capacity) || self.random.chance(100) {
             self.say(format!("cells {}", cells_needed(settings.capacity)));
         }
-        self.make(&settings);
+        self.make_over_anything(&settings);
         if self.done() {
             return;
         }

@@ -1,6 +1,9 @@
 //! Turns captured packets (lines `sender hex`) into a script.
 
+use crate::cells::cells_needed;
 use std::io::{self, Write};
+
+const CAPACITY: u64 = 64;
 
 /// Writes a script that gives each packet to a table of the packets' version and to one of
 /// version 4, after an echo by each sender so that messages can be counted.
@@ -13,9 +16,9 @@ pub fn outside(text: &str, output: &mut dyn Write) -> io::Result<()> {
     senders.sort_unstable();
     senders.dedup();
     for version in [version, 4] {
-        writeln!(output, "cells 1501")?;
+        writeln!(output, "cells {}", cells_needed(CAPACITY))?;
         let rows = "167837696 167903231 7 0 0 0 0 0 0 0 0 0";
-        writeln!(output, "make {version} 64 32 640000 64 1 {rows}")?;
+        writeln!(output, "make {version} 64 32 640000 {CAPACITY} 1 {rows}")?;
         writeln!(output, "own 0 1 50 0 0 12 -")?;
         for sender in &senders {
             let echo = format!("{version:02x}40310000070000{:08x}", 167_837_696);

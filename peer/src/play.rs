@@ -46,7 +46,7 @@ impl Player {
     /// Writes the book into the buffer if that is still to be done.
     fn settle(&mut self) {
         if let (true, Some(book)) = (self.stale, &self.book) {
-            let needed = book::cells_needed(book.settings.capacity) as usize;
+            let needed = cells::cells_needed(book.settings.capacity) as usize;
             cells::encode(book, &mut self.buffer[..needed]);
         }
         self.stale = false;
@@ -70,7 +70,7 @@ impl Player {
         self.settle();
         let lent = &self.buffer[..self.lent];
         if let Some(book) = &self.book {
-            let mut expected = vec![0; book::cells_needed(book.settings.capacity) as usize];
+            let mut expected = vec![0; cells::cells_needed(book.settings.capacity) as usize];
             cells::encode(book, &mut expected);
             if lent == expected {
                 return Lent::Book;
@@ -96,13 +96,13 @@ impl Player {
     pub fn call(&mut self, call: &Call, out: &mut Vec<u8>) -> Result<(), OutsideBook> {
         match call {
             Call::Size { capacity } => {
-                say(out, b"size", &[book::cells_needed(*capacity)]);
+                say(out, b"size", &[cells::cells_needed(*capacity)]);
                 end(out);
             }
             Call::Cells { lent } => self.lend(*lent),
             Call::Make { settings } => self.make(settings, out),
-            Call::Receive { .. } => self.receive(call, out)?,
-            Call::Own { .. } => self.own(call, out)?,
+            Call::Receive(arrival) => self.receive(arrival, out)?,
+            Call::Own(own) => self.own(own, out)?,
             Call::Sweep { time } => self.sweep(*time, out)?,
             Call::Best { originator } => self.best(*originator, out)?,
             Call::List { originator, rows } => self.list(*originator, *rows, out)?,
@@ -154,25 +154,8 @@ impl Player {
         self.state = Lent::Book;
     }
 
-    fn receive(&mut self, call: &Call, out: &mut Vec<u8>) -> Result<(), OutsideBook> {
-        let Call::Receive {
-            interface,
-            sender,
-            time,
-            output,
-            packet,
-        } = call
-        else {
-            return Ok(());
-        };
-        let arrival = Receive {
-            interface: *interface,
-            sender: *sender,
-            time: *time,
-            output: *output,
-            packet,
-        };
-        match self.table()?.and_then(|book| book.receive(&arrival)) {
+    fn receive(&mut self, arrival: &Receive, out: &mut Vec<u8>) -> Result<(), OutsideBook> {
+        match self.table()?.and_then(|book| book.receive(arrival)) {
             Err(refusal) => {
                 let fields = [refusal.number, refusal.place, 0, 0, 0, 0, 0];
                 say(out, b"receive", &fields);
@@ -199,29 +182,8 @@ impl Player {
         Ok(())
     }
 
-    fn own(&mut self, call: &Call, out: &mut Vec<u8>) -> Result<(), OutsideBook> {
-        let Call::Own {
-            interface,
-            time,
-            ttl,
-            gateway_flags,
-            gateway_port,
-            output,
-            hna,
-        } = call
-        else {
-            return Ok(());
-        };
-        let own = Own {
-            interface: *interface,
-            time: *time,
-            ttl: *ttl,
-            gateway_flags: *gateway_flags,
-            gateway_port: *gateway_port,
-            output: *output,
-            hna,
-        };
-        match self.table()?.and_then(|book| book.own(&own)) {
+    fn own(&mut self, own: &Own, out: &mut Vec<u8>) -> Result<(), OutsideBook> {
+        match self.table()?.and_then(|book| book.own(own)) {
             Err(refusal) => {
                 say(out, b"own", &[refusal.number, refusal.place, 0, 0]);
                 say_octets(out, &[]);

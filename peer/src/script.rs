@@ -1,6 +1,6 @@
 //! Reads one line of a script of calls, in the form that the replay program takes.
 
-use crate::book::{InterfaceRow, Settings, INTERFACES_MOST};
+use crate::book::{InterfaceRow, Own, Receive, Settings, INTERFACES_MOST};
 
 pub const BUFFER_CELLS: usize = 66_560;
 const LINE_MOST: usize = 8192;
@@ -11,49 +11,16 @@ const ROWS_MOST: u64 = 16;
 /// One call of a script.
 #[derive(Clone, Debug, PartialEq)]
 pub enum Call {
-    Size {
-        capacity: u64,
-    },
-    Cells {
-        lent: usize,
-    },
-    Make {
-        settings: Settings,
-    },
-    Receive {
-        interface: u64,
-        sender: u32,
-        time: u64,
-        output: u64,
-        packet: Vec<u8>,
-    },
-    Own {
-        interface: u64,
-        time: u64,
-        ttl: u8,
-        gateway_flags: u8,
-        gateway_port: u16,
-        output: u64,
-        hna: Vec<u8>,
-    },
-    Sweep {
-        time: u64,
-    },
-    Best {
-        originator: u32,
-    },
-    List {
-        originator: u32,
-        rows: u64,
-    },
-    Check {
-        version: u64,
-        packet: Vec<u8>,
-    },
-    Poke {
-        index: usize,
-        value: u64,
-    },
+    Size { capacity: u64 },
+    Cells { lent: usize },
+    Make { settings: Settings },
+    Receive(Receive),
+    Own(Own),
+    Sweep { time: u64 },
+    Best { originator: u32 },
+    List { originator: u32, rows: u64 },
+    Check { version: u64, packet: Vec<u8> },
+    Poke { index: usize, value: u64 },
     Dump,
 }
 
@@ -92,14 +59,14 @@ fn read_call(name: &[u8], words: &mut Words) -> Option<Call> {
         b"make" => Some(Call::Make {
             settings: read_settings(words)?,
         }),
-        b"receive" => Some(Call::Receive {
+        b"receive" => Some(Call::Receive(Receive {
             interface: words.number()?,
             sender: words.address()?,
             time: words.number()?,
             output: words.at_most(OUTPUT_MOST)?,
             packet: words.octets()?,
-        }),
-        b"own" => Some(Call::Own {
+        })),
+        b"own" => Some(Call::Own(Own {
             interface: words.number()?,
             time: words.number()?,
             ttl: words.at_most(255)? as u8,
@@ -107,7 +74,7 @@ fn read_call(name: &[u8], words: &mut Words) -> Option<Call> {
             gateway_port: words.at_most(65_535)? as u16,
             output: words.at_most(OUTPUT_MOST)?,
             hna: words.octets()?,
-        }),
+        })),
         b"sweep" => Some(Call::Sweep {
             time: words.number()?,
         }),

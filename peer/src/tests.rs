@@ -1,19 +1,23 @@
 //! The examples of document 01, its "Errors that come easily", and self-checks of the peer.
 
-use crate::book::{cells_needed, Book};
-use crate::cells;
+use crate::book::Book;
+use crate::cells::{
+    self, cells_needed, head, interface, interface_at, link, link_at, neighbour, neighbour_at,
+    record, record_at,
+};
 use crate::generate::generate;
 use crate::packet;
 use crate::play::{self, Ending, Lent, Player};
-use crate::script::{self, Line};
+use crate::script::{self, Line, BUFFER_CELLS};
 use crate::words::{self, Counted, Link};
 
-const A: Link = link(10);
-const B: Link = link(11);
-const C: Link = link(12);
+const A: Link = by(10);
+const B: Link = by(11);
+const C: Link = by(12);
 const FAR: u32 = 99;
+const CAPACITY: u64 = 8;
 
-const fn link(neighbour: u32) -> Link {
+const fn by(neighbour: u32) -> Link {
     Link {
         neighbour,
         interface: 0,
@@ -61,8 +65,8 @@ fn last(lines: &[String]) -> String {
 /// A table with W and B, one interface (own 1, broadcast 255) that sends from `first` on.
 fn table(window: u64, timeout: u64, first: u16) -> Vec<String> {
     vec![
-        "cells 269".to_string(),
-        format!("make 4 {window} {timeout} 1000 8 1 1 255 {first} 0 0 0 0 0 0 0 0 0"),
+        format!("cells {}", cells_needed(CAPACITY)),
+        format!("make 4 {window} {timeout} 1000 {CAPACITY} 1 1 255 {first} 0 0 0 0 0 0 0 0 0"),
     ]
 }
 
@@ -383,57 +387,64 @@ fn example_cells() -> Vec<u64> {
 fn one_cell_breaks_a_table() {
     let cells = example_cells();
     assert!(cells::well_formed(&cells));
-    let record = cells::RECORDS;
+    let (one, other, unused) = (interface_at(0), interface_at(1), neighbour_at(3));
+    let row = neighbour_at(0);
+    let (record, behind) = (record_at(0), record_at(2));
+    let (link, next, third) = (
+        record + link_at(0),
+        record + link_at(1),
+        record + link_at(2),
+    );
     let breaking = [
-        (0, 256),
-        (1, 0),
-        (1, 65),
-        (1, 1),
-        (2, 0),
-        (2, 1001),
-        (3, 0),
-        (3, 1 << 32),
-        (4, 7),
-        (4, 9),
-        (5, 0),
-        (5, 2 + 3),
-        (7, 2),
-        (7, 4),
-        (8, 1),
-        (8, 3),
-        (9, 1 << 32),
-        (9, 99),
-        (10, 1 << 32),
-        (11, 65536),
-        (12, 0),
-        (12, 2),
-        (13, 65536),
-        (13, 6),
-        (14, 1),
-        (29, 1 << 34),
-        (29, 41),
-        (29, 44),
-        (30, 6 + 65536),
-        (30, 8),
-        (35, 1),
-        (record, 1),
-        (record, 200),
-        (record, 1 << 32),
-        (record + 1, 65536),
-        (record + 2, 1),
-        (record + 3, 256),
-        (record + 4, 0),
-        (record + 4, 1),
-        (record + 4, 3),
-        (record + 4, 9),
-        (record + 5, 48),
-        (record + 6, 44),
-        (record + 6, 41),
-        (record + 7, 256),
-        (record + 9, 0),
-        (record + 10, 1),
-        (record + 44, 1),
-        (268, 1),
+        (head::VERSION, 256),
+        (head::WINDOW, 0),
+        (head::WINDOW, 65),
+        (head::WINDOW, 1),
+        (head::TIMEOUT, 0),
+        (head::TIMEOUT, 1001),
+        (head::PURGE, 0),
+        (head::PURGE, 1 << 32),
+        (head::CAPACITY, CAPACITY - 1),
+        (head::CAPACITY, CAPACITY + 1),
+        (head::USED, 0),
+        (head::USED, 2 + 3),
+        (head::NEIGHBOURS_HELD, 2),
+        (head::NEIGHBOURS_HELD, 4),
+        (head::ORIGINATORS_HELD, 1),
+        (head::ORIGINATORS_HELD, 3),
+        (one + interface::OWN, 1 << 32),
+        (one + interface::OWN, 99),
+        (one + interface::BROADCAST, 1 << 32),
+        (one + interface::FIRST, 65536),
+        (one + interface::SENT, 0),
+        (one + interface::SENT, 2),
+        (one + interface::LAST, 65536),
+        (one + interface::LAST, 6),
+        (other, 1),
+        (row + neighbour::KEY, 1 << 34),
+        (row + neighbour::KEY, 41),
+        (row + neighbour::KEY, 44),
+        (row + neighbour::NUMBER, 6 + 65536),
+        (row + neighbour::NUMBER, 8),
+        (unused, 1),
+        (record + record::ORIGINATOR, 1),
+        (record + record::ORIGINATOR, 200),
+        (record + record::ORIGINATOR, 1 << 32),
+        (record + record::CURRENT, 65536),
+        (record + record::TIME, 1),
+        (record + record::TTL, 256),
+        (record + record::LINKS_HELD, 0),
+        (record + record::LINKS_HELD, 1),
+        (record + record::LINKS_HELD, 3),
+        (record + record::LINKS_HELD, 9),
+        (record + record::BEST, 48),
+        (link + link::KEY, 44),
+        (link + link::KEY, 41),
+        (link + link::MARKS, 256),
+        (next + link::MARKS, 0),
+        (third, 1),
+        (behind, 1),
+        (cells.len() - 1, 1),
     ];
     for (index, value) in breaking {
         let mut broken = cells.clone();
@@ -451,20 +462,22 @@ fn cells_may_break_and_be_mended() {
     feed(&mut lines, &[(A, 300)]);
     let asked = format!("best {FAR}");
     let (whole, broken) = ("best 0 10 0 1 8", "best 1 0 0 0 0");
+    let needed = cells_needed(CAPACITY);
     let changes = [
-        ("cells 268", broken),
-        ("cells 269", whole),
-        ("poke 1 0", broken),
-        ("cells 66560", broken),
-        ("cells 269", broken),
-        ("poke 1 8", whole),
-        ("poke 269 5", whole),
+        (format!("cells {}", needed - 1), broken),
+        (format!("cells {needed}"), whole),
+        (format!("poke {} 0", head::WINDOW), broken),
+        (format!("cells {BUFFER_CELLS}"), broken),
+        (format!("cells {needed}"), broken),
+        (format!("poke {} 8", head::WINDOW), whole),
+        (format!("poke {needed} 5"), whole),
     ];
     for (change, answer) in changes {
-        lines.extend([change.to_string(), asked.clone()]);
+        lines.extend([change.clone(), asked.clone()]);
         assert_eq!(last(&lines), answer, "after {change}");
     }
-    lines.extend(["poke 0 300".to_string(), table(8, 32, 7)[1].clone()]);
+    let spoilt = format!("poke {} 300", head::VERSION);
+    lines.extend([spoilt, table(8, 32, 7)[1].clone()]);
     assert_eq!(last(&lines), "make 0");
     lines.push(asked);
     assert_eq!(last(&lines), "best 0 0 0 0 0");
@@ -473,7 +486,7 @@ fn cells_may_break_and_be_mended() {
 #[test]
 fn a_table_without_a_history_ends_the_play() {
     let mut lines = with_rows();
-    lines.extend(["poke 6 9".to_string(), "best 1".to_string()]);
+    lines.extend([format!("poke {} 9", head::TIME), "best 1".to_string()]);
     let script = lines.join("\n");
     let ending = play::play(&mut script.as_bytes(), &mut Vec::new(), false);
     assert!(matches!(ending, Ok(Ending::Outside(8))));
@@ -485,11 +498,12 @@ fn fresh_tables_are_well_formed_and_zeros_are_not() {
     else {
         panic!("a make line");
     };
-    let book = Book::make(settings, 269).ok().unwrap();
-    let mut fresh = vec![7; cells_needed(8) as usize];
+    let needed = cells_needed(CAPACITY);
+    let book = Book::make(settings, needed).ok().unwrap();
+    let mut fresh = vec![7; needed as usize];
     cells::encode(&book, &mut fresh);
     assert!(cells::well_formed(&fresh));
-    assert!(!cells::well_formed(&vec![0; 269]));
+    assert!(!cells::well_formed(&vec![0; needed as usize]));
     assert!(!cells::well_formed(&[]));
 }
 

@@ -8,10 +8,9 @@ use rules::Settings;
 use rules::Swept;
 use rules::Written;
 ghost use mathlib.Core.Path.{_≡_};
-ghost use mathlib.Core.List.{[]};
 ghost use Rattle.wire.specs.Check.{packetCheck};
 ghost use Rattle.rules.specs.Calls as C;
-ghost use Rattle.table_layout.specs.Calls.{callOn, Promised};
+ghost use Rattle.table_layout.specs.Calls.{Promised};
 ghost use Rattle.call_make.specs.Make.{makeArgs, neededFor};
 ghost use Rattle.call_receive_arrival.specs.Receiving.{argsOf};
 ghost use Rattle.call_own_packet_checks.specs.OwnPacket.{args};
@@ -99,7 +98,7 @@ pub extern "C" fn batman_best(cells: &[u64], originator: u32) -> Asked
 // Fills the caller's rows, one for each link held to an originator, in table order. Further rows stay as they are.
 #[no_mangle]
 pub extern "C" fn batman_list(cells: &[u64], originator: u32, rows: &mut [LinkRow]) -> Listed
-    ensures { λ r. ⌜ (callOn (now (cells .entry)) (C.list originator (now (rows .entry))) .reply ≡ record { answer = C.listed r; output = []; rows = now (rows .exit) }) × (callOn (now (cells .entry)) (C.list originator (now (rows .entry))) .cells ≡ now (cells .entry)) ⌝ }
+    ensures { λ r. ⌜ Promised (now (cells .entry)) (C.list originator (now (rows .entry))) (C.answeredFilling (C.listed r) (now (rows .exit))) (now (cells .entry)) ⌝ }
 {
     let room = rows.len();
     let got = call_list::links_of(cells, originator, room);

@@ -1,21 +1,22 @@
 -- Rows written one after the other, and the rows of a record's links. Assumes nothing.
-use Prim.Native.Nat.{ℕ, suc, _+_, _*_, _≤_, _<_}
+use Prim.Native.Nat.{ℕ, suc, _+_, _≤_, _<_}
 use native.Mathlib.Numerals.{add-one}
 use native.Mathlib.Omega.{arith}
 use mathlib.Core.Path.{_≡_, refl, sym, ap, _∙_}
-use mathlib.Core.List.{List, map, append-assoc}
+use mathlib.Core.List.{List, [], map, append-assoc}
 use mathlib.Core.Option.{some}
 use lib.ListN.{length, getD, set, take, drop, replicate, length-map, List·getD-map}
-use lib.Seq.{take-suc, drop-cons, set-at, take-at, take-all, getD-drop, length-take-le, length-front}
+use lib.Seq.{take-suc, drop-cons, set-at, take-at, take-all, length-take-le, length-front}
 use Rattle.lists.specs.Lists.{writtenTo}
 use Rattle.lists.proofs.Lists.{map-map}
-use Rattle.cells.proofs.Pairs.{length-pairs, pair-of}
 use Rattle.window.specs.Window.{count}
 use Rattle.rules.specs.declared.LinkRow.{LinkRow}
-use Rattle.rules.specs.Settings.{Config, linkMost, linkCells, recordHeadCells}
+use Rattle.rules.specs.Settings.{Config, linkMost}
 use Rattle.rules.specs.Rules.{linkRows}
 use Rattle.rules.specs.Table.{table}
-use Rattle.table_record.specs.Record.{linksAt, bestAt, linksOf, decodeRecord}
+use Rattle.table_record.specs.Links.{linkIn, linkAt}
+use Rattle.table_record.specs.Record.{linksAt, bestAt, linksPart, linksOf, decodeRecord}
+use Rattle.table_record.proofs.Links.{length-links, link-of}
 use Rattle.call_list.specs.Listing.{zeroRow, rowOf, Listable, Finds}
 
 -- ---- rows written at the start of a lent list
@@ -50,24 +51,19 @@ by-rules κ row = map-map (λ (e : ℕ × ℕ). (e .0, count (e .1))) _ (linksOf
 
 module _ (W : ℕ) (row : List ℕ) where
   length-rows : length (rowsIn W row) ≡ getD row linksAt 0
-  length-rows = length-map (linksOf row) (rowOf W (getD row bestAt 0)) ∙ length-pairs (getD row linksAt 0) (drop recordHeadCells row)
+  length-rows = length-map (linksOf row) (rowOf W (getD row bestAt 0)) ∙ length-links (getD row linksAt 0) (linksPart row)
 
-  row-at : (i : ℕ) → i < getD row linksAt 0
-      → getD (rowsIn W row) i (rowOf W (getD row bestAt 0) (0, 0)) ≡ rowOf W (getD row bestAt 0) (getD row (recordHeadCells + i * linkCells) 0, getD row (recordHeadCells + i * linkCells + 1) 0)
-  row-at i h =
-      let second : recordHeadCells + (i * linkCells + 1) ≡ recordHeadCells + i * linkCells + 1 = omega arith in
-      List·getD-map (rowOf W (getD row bestAt 0)) (linksOf row) i (0, 0)
-      ∙ ap (rowOf W (getD row bestAt 0)) (pair-of (getD row linksAt 0) (drop recordHeadCells row) i (0, 0) h
-      ∙ (λ j. (getD-drop recordHeadCells row (i * linkCells) 0 j, (getD-drop recordHeadCells row (i * linkCells + 1) 0 ∙ ap (λ (k : ℕ). getD row k 0) second) j)))
+  row-at : (i : ℕ) → i < getD row linksAt 0 → getD (rowsIn W row) i (rowOf W (getD row bestAt 0) (linkIn [])) ≡ rowOf W (getD row bestAt 0) (linkAt (linksPart row) i)
+  row-at i h = List·getD-map (rowOf W (getD row bestAt 0)) (linksOf row) i (linkIn []) ∙ ap (rowOf W (getD row bestAt 0)) (link-of (getD row linksAt 0) (linksPart row) i [] h)
 
   module _ (h : Listable row) (rows : List LinkRow) where
-    pub row-written : (i : ℕ) (r : LinkRow) → i < getD row linksAt 0 → rows ≡ writtenTo (take i (rowsIn W row)) blank
-        → r ≡ rowOf W (getD row bestAt 0) (getD row (recordHeadCells + i * linkCells) 0, getD row (recordHeadCells + i * linkCells + 1) 0)
+    pub row-written : (i : ℕ) (r : LinkRow) → i < getD row linksAt 0 → rows ≡ writtenTo (take i (rowsIn W row)) blank → r ≡ rowOf W (getD row bestAt 0) (linkAt (linksPart row) i)
         → set rows i r ≡ writtenTo (take (i + 1) (rowsIn W row)) blank
     row-written i r l e q =
         let n = length-rows in
         let f = h .few in
-        (λ j. set (e j) i ((q ∙ sym (row-at i l)) j)) ∙ written-more (rowsIn W row) blank i (rowOf W (getD row bestAt 0) (0, 0)) (omega arith) (omega arith) ∙ ap (λ (k : ℕ). writtenTo (take k (rowsIn W row)) blank) (sym (add-one i))
+        (λ j. set (e j) i ((q ∙ sym (row-at i l)) j)) ∙ written-more (rowsIn W row) blank i (rowOf W (getD row bestAt 0) (linkIn [])) (omega arith) (omega arith)
+        ∙ ap (λ (k : ℕ). writtenTo (take k (rowsIn W row)) blank) (sym (add-one i))
 
     -- all of them are written
     pub rows-found : (i : ℕ) → getD row linksAt 0 ≤ i → rows ≡ writtenTo (take i (rowsIn W row)) blank → (κ : Config) → W ≡ κ .settings .window

@@ -1,15 +1,18 @@
 // The list call: the rows of an originator's links are looked up, then written to the caller's.
 use cells::Found;
 use rules::LinkRow;
+use rules::limits::INTERFACES_MOST;
+use rules::limits::LINKS_MOST;
 use table_check::well_formed;
 use table_layout::WINDOW;
 use table_originators::find_record;
 use table_originators::record_at;
 use table_record::BEST;
-use table_record::FIELDS;
-use table_record::INTERFACES;
-use table_record::LINK;
 use table_record::LINKS;
+use table_record::key_at;
+use table_record::links_part;
+use table_record::marks_at;
+use window::Marks;
 use window::count;
 use wire::refusals::NOT_WELL_FORMED;
 use wire::refusals::SHORT_OUTPUT;
@@ -20,7 +23,9 @@ ghost use Prim.Native.Nat.{_≤_, _<_};
 ghost use lib.ListN.{length, take, getD};
 ghost use Rattle.lists.specs.Lists.{writtenTo};
 ghost use Rattle.lists.specs.Keyed.{lookup};
+ghost use Rattle.window.specs.Marks.{wordOf};
 ghost use Rattle.rules.specs.Settings.{Config, linkMost};
+ghost use Rattle.rules.specs.Calls.{pairs};
 ghost use Rattle.rules.specs.Rules.{linkRows};
 ghost use Rattle.rules.specs.Table.{table};
 ghost use Rattle.table_record.specs.Record.{decodeRecord};
@@ -28,9 +33,12 @@ ghost use Rattle.table_layout.specs.Cells.{decode};
 ghost use Rattle.table_layout.specs.Facts.{Knows};
 ghost use Rattle.call_list.specs.Listing.{zeroRow, rowOf, Listable, Finds, FindsNone, Settles};
 
+// As many rows as a record has room for links.
+const ROWS_MOST: usize = LINKS_MOST as usize;
+
 // What is looked up: the first n rows are those of the links held, and `number` is 0 or a refusal, which has no rows.
 pub struct Links {
-    pub rows: [LinkRow; 8],
+    pub rows: [LinkRow; ROWS_MOST],
     pub n: usize,
     pub number: u64,
 }
@@ -52,7 +60,7 @@ fn zero_row() -> LinkRow
 fn no_links(number: u64) -> Links
     ensures { λ r. ⌜ FindsNone number r ⌝ }
 {
-    let rows = [zero_row(); 8];
+    let rows = [zero_row(); ROWS_MOST];
     Links { rows, n: 0, number }
 }
 
@@ -64,16 +72,16 @@ fn bit(b: bool) -> u32
 }
 
 // The row of a link.
-fn row_of(pair: u64, marks: u64, window: u32, best: u64) -> LinkRow
-    requires { ⌜ pair < 17179869184 ⌝ }
-    ensures { λ r. ⌜ r ≡ rowOf window best (pair, marks) ⌝ }
+fn row_of(pair: u64, marks: Marks, window: u32, best: u64) -> LinkRow
+    requires { ⌜ pair < pairs ⌝ }
+    ensures { λ r. ⌜ r ≡ rowOf window best (pair, wordOf marks) ⌝ }
 {
     LinkRow {
-        neighbour: (pair / INTERFACES) as u32,
-        interface: (pair % INTERFACES) as u32,
+        neighbour: (pair / INTERFACES_MOST) as u32,
+        interface: (pair % INTERFACES_MOST) as u32,
         count: count(marks),
         window,
-        best: bit(pair == best),
+        best: bit(best == pair),
     }
 }
 
@@ -82,13 +90,13 @@ fn rows_of(row: &[u64], window: u32) -> Links
     requires { ⌜ Listable (now row) ⌝ }
     ensures { λ r. ⌜ ((κ : Config) → window ≡ κ .settings .window → Finds (linkRows table κ (some (decodeRecord (now (row .entry)) .1))) r) ⌝ }
 {
+    let part = links_part(row);
     let best = row[BEST];
     let n = row[LINKS] as usize;
-    let mut rows = [zero_row(); 8];
+    let mut rows = [zero_row(); ROWS_MOST];
     let mut i = 0;
     while i < n {
-        let at = FIELDS + i * LINK;
-        rows[i] = row_of(row[at], row[at + 1], window, best);
+        rows[i] = row_of(key_at(part, i), marks_at(part, i), window, best);
         i += 1;
     }
     Links { rows, n, number: 0 }

@@ -2,16 +2,19 @@
 use mathlib.Core.Path.{_≡_, refl, sym, ap, _∙_}
 use mathlib.Core.List.{List, [], _∷_}
 use mathlib.Core.Bool.{Bool, true, false, cond, _&&_, _||_, and-true, and-false}
-use Prim.Native.Nat.{ℕ, _+_, _-_, _≤_, _<_}
+use Prim.Native.Nat.{ℕ, _+_, _*_, _-_, _≤_, _<_}
+use native.Mathlib.Nat.{sub-zero}
 use native.Mathlib.Omega.{arith}
 use lib.Dec.{eqb}
-use lib.ListN.{drop, getD}
+use lib.ListN.{drop}
 use borrow.Author.Tests.{eq-eqb}
+use Rattle.lists.specs.Lists.{all}
 use Rattle.lists.specs.Keyed.{mapValues}
-use Rattle.cells.proofs.Pairs.{pairs-one, pairs-none}
 use Rattle.window.specs.Window.{shift, count}
 use Rattle.rules.specs.Settings.{Config, linkCells}
-use Rattle.rules.specs.Table.{isHighest}
+use Rattle.table_record.specs.Links.{linkAt}
+use Rattle.table_record.proofs.Links.{links-one, links-none}
+use Rattle.count_best_link.specs.declared.Step.{Step}
 use Rattle.count_best_link.specs.BestLink.{Links, moved, yields}
 
 neither : (a b : Bool) → (a || b) ≡ false → a ≡ false
@@ -21,50 +24,65 @@ neither false b e = refl
 never : {x y : ℕ} → false ≡ true → x ≡ y
 never e = let z : _≡_ {A = ℕ} 0 1 = cc in omega arith
 
--- of the links passed the highest is `top`, with the count `high`: this one, until another stands higher. Whether none does is `all`
-pub record Leading (κ : Config) (key marks top high : ℕ) (rest : Links) (all : Bool) : Type 0 where
-  pub own : eqb top key ≡ true → high ≡ count marks
-  pub goal : (eqb top key && isHighest κ key marks rest) ≡ all
+-- no link stands higher than this one, whose count is `own`: the rules' `isHighest`, told by the count
+abbrev pub leads : Config → (key own : ℕ) → Links → Bool
+leads κ key own ls = all (yields κ key own) ls
 
-pub leading-start : (κ : Config) (key marks high : ℕ) (ls : Links) → high ≡ count marks → Leading κ key marks key high ls (isHighest κ key marks ls)
-leading-start κ key marks high ls e = record { own = λ t. e; goal = ap (λ (t : Bool). t && isHighest κ key marks ls) (eq-eqb key key refl) }
+-- of the links passed the highest is `top`, with the count `high`: this one, until another stands higher. Whether none does is `none`
+pub record Leading (κ : Config) (key own top high : ℕ) (rest : Links) (none : Bool) : Type 0 where
+  pub count : eqb top key ≡ true → high ≡ own
+  pub goal : (eqb top key && leads κ key own rest) ≡ none
 
-pub leading-end : {κ : Config} {key marks top high : ℕ} {rest : Links} {all : Bool} → Leading κ key marks top high rest all → rest ≡ [] → eqb top key ≡ all
-leading-end {κ} {key} {marks} {top} l e = sym (and-true (eqb top key)) ∙ ap (λ (ls : Links). eqb top key && isHighest κ key marks ls) (sym e) ∙ l .goal
+pub leading-start : (κ : Config) (key own : ℕ) (ls : Links) → Leading κ key own key own ls (leads κ key own ls)
+leading-start κ key own ls = record { count = λ t. refl; goal = ap (λ (t : Bool). t && leads κ key own ls) (eq-eqb key key refl) }
 
--- ---- a link read: `left` links from place `at` on
+pub leading-end : {κ : Config} {key own top high : ℕ} {rest : Links} {none : Bool} → Leading κ key own top high rest none → rest ≡ [] → eqb top key ≡ none
+leading-end {κ} {key} {own} {top} l e = sym (and-true (eqb top key)) ∙ ap (λ (ls : Links). eqb top key && leads κ key own ls) (sym e) ∙ l .goal
 
-module _ (c : List ℕ) (w d at left v : ℕ) (h : 0 < left) (e : v ≡ shift w d (getD c (at + 1) 0)) where
+-- ---- n links read one by one
+
+-- those from link i on, once current has moved up
+abbrev pub from : List ℕ → Step → (n i : ℕ) → Links
+from c step n i = moved step (n - i) (drop (i * linkCells) c)
+
+pub from-start : (c : List ℕ) (step : Step) (n : ℕ) → from c step n 0 ≡ moved step n c
+from-start c step n = ap (λ (k : ℕ). moved step k c) (sub-zero n)
+
+-- link i, as it is read: its key and its marks once current has moved up
+module _ (c : List ℕ) (step : Step) (n i key′ v : ℕ) (h : i < n) (ek : key′ ≡ linkAt c i .0) (ev : v ≡ shift (step .policy .window) (step .up) (linkAt c i .1)) where
+  abbrev pub this : ℕ × ℕ
+  this = (key′, v)
+
   abbrev pub more : Links
-  more = moved w d (left - 1) (drop (at + linkCells) c)
+  more = from c step n (i + 1)
 
-  pub moved-one : moved w d left (drop at c) ≡ (getD c at 0, v) ∷ more
-  moved-one = ap (mapValues (shift w d)) (pairs-one c at left h) ∙ ap (λ (x : ℕ). (getD c at 0, x) ∷ more) (sym e)
+  pub moved-one : from c step n i ≡ this ∷ more
+  moved-one =
+      let left : n - i - 1 ≡ n - (i + 1) = omega arith in
+      ap (mapValues (shift (step .policy .window) (step .up))) (links-one c i (n - i) (omega arith))
+      ∙ (λ j. (sym ek j, sym ev j) ∷ moved step (left j) (drop ((i + 1) * linkCells) c))
 
   -- it stands higher or not
-  pub highest-one : (κ : Config) (key marks : ℕ) {high : ℕ} {t : Bool} → high ≡ count marks → yields κ key high (getD c at 0, v) ≡ t
-      → isHighest κ key marks (moved w d left (drop at c)) ≡ (t && isHighest κ key marks more)
-  highest-one κ key marks eh et =
-      ap (isHighest κ key marks) moved-one
-      ∙ ap (λ (s : Bool). s && isHighest κ key marks more) (ap (λ (h : ℕ). yields κ key h (getD c at 0, v)) (sym eh) ∙ et)
+  leads-one : (κ : Config) (key own : ℕ) {high : ℕ} {t : Bool} → high ≡ own → yields κ key high this ≡ t → leads κ key own (from c step n i) ≡ (t && leads κ key own more)
+  leads-one κ key own eh et = ap (leads κ key own) moved-one ∙ ap (λ (s : Bool). s && leads κ key own more) (ap (λ (h : ℕ). yields κ key h this) (sym eh) ∙ et)
 
   -- the next turn of the search for the highest
-  pub leading-turn : {κ : Config} {key marks top high : ℕ} {all : Bool} → Leading κ key marks top high (moved w d left (drop at c)) all → (t : Bool) → yields κ key high (getD c at 0, v) ≡ t
-      → Leading κ key marks (cond t top (getD c at 0)) (cond t high (count v)) more all
-  leading-turn {κ} {key} {marks} {top} {high} {all} l = go
+  pub leading-turn : {κ : Config} {key own top high : ℕ} {none : Bool} → Leading κ key own top high (from c step n i) none → (t : Bool) → yields κ key high this ≡ t
+      → Leading κ key own (cond t top (this .0)) (cond t high (count v)) more none
+  leading-turn {κ} {key} {own} {top} {high} {none} l = go
     where
-      same : (b t : Bool) → eqb top key ≡ b → yields κ key high (getD c at 0, v) ≡ t → (b && (t && isHighest κ key marks more)) ≡ all
-      same true t eb et = sym (highest-one κ key marks (l .own eb) et) ∙ sym (ap (λ (s : Bool). s && isHighest κ key marks (moved w d left (drop at c))) eb) ∙ l .goal
-      same false t eb et = sym (ap (λ (s : Bool). s && isHighest κ key marks (moved w d left (drop at c))) eb) ∙ l .goal
+      same : (b t : Bool) → eqb top key ≡ b → yields κ key high this ≡ t → (b && (t && leads κ key own more)) ≡ none
+      same true t eb et = sym (leads-one κ key own (l .count eb) et) ∙ sym (ap (λ (s : Bool). s && leads κ key own (from c step n i)) eb) ∙ l .goal
+      same false t eb et = sym (ap (λ (s : Bool). s && leads κ key own (from c step n i)) eb) ∙ l .goal
 
-      go : (t : Bool) → yields κ key high (getD c at 0, v) ≡ t → Leading κ key marks (cond t top (getD c at 0)) (cond t high (count v)) more all
-      go true et = record { own = l .own; goal = same (eqb top key) true refl et }
+      go : (t : Bool) → yields κ key high this ≡ t → Leading κ key own (cond t top (this .0)) (cond t high (count v)) more none
+      go true et = record { count = l .count; goal = same (eqb top key) true refl et }
       go false et =
-          let other = neither (eqb (getD c at 0) key) _ et in
+          let other = neither (eqb (this .0) key) _ et in
           record {
-            own = λ e. never (sym other ∙ e);
-            goal = ap (λ (s : Bool). s && isHighest κ key marks more) other ∙ sym (and-false (eqb top key)) ∙ same (eqb top key) false refl et;
+            count = λ e. never (sym other ∙ e);
+            goal = ap (λ (s : Bool). s && leads κ key own more) other ∙ sym (and-false (eqb top key)) ∙ same (eqb top key) false refl et;
           }
 
-pub moved-none : (c : List ℕ) (w d at left : ℕ) → left ≤ 0 → moved w d left (drop at c) ≡ []
-moved-none c w d at left h = ap (mapValues (shift w d)) (pairs-none c at left h)
+pub moved-none : (c : List ℕ) (step : Step) (n i : ℕ) → n ≤ i → from c step n i ≡ []
+moved-none c step n i h = ap (mapValues (shift (step .policy .window) (step .up))) (links-none c i (n - i) (omega arith))

@@ -4,18 +4,19 @@ use mathlib.Core.Bool.{Bool, cond, _||_}
 use mathlib.Core.List.{List}
 use lib.Dec.{eqb}
 use Rattle.lists.specs.Keyed.{mapValues}
-use Rattle.cells.specs.Pairs.{pairsOf}
 use Rattle.window.specs.Window.{shift, count}
 use Rattle.rules.specs.Settings.{Config}
 use Rattle.rules.specs.Rules.{notHigher}
 use Rattle.rules.specs.Table.{isHighest}
+use Rattle.table_record.specs.Links.{linksFrom}
+use Rattle.count_best_link.specs.declared.Step.{Step}
 
 abbrev pub Links : Type 0
 Links = List (ℕ × ℕ)
 
--- the first n links of a part, once current has moved up by d
-abbrev pub moved : (W d n : ℕ) → List ℕ → Links
-moved W d n part = mapValues (shift W d) (pairsOf n part)
+-- the first n links of a part, once current has moved up
+abbrev pub moved : Step → (n : ℕ) → List ℕ → Links
+moved s n part = mapValues (shift (s .policy .window) (s .up)) (linksFrom n part)
 
 -- a link is this one, or has no higher count than `high`
 abbrev pub yields : Config → (key high : ℕ) → ℕ × ℕ → Bool

@@ -1,2 +1,4 @@
--- A record's row after counting.
+-- A record's row after a message.
 pub mod Rows
+pub mod Left
+pub mod Hearing

@@ -1,8 +1,8 @@
 -- A record's row: what counting writes is the encoding of what the rules count. Assumes nothing.
 use mathlib.Core.Path.{_≡_, refl, sym, ap, _∙_, subst}
 use mathlib.Core.List.{List, [], _∷_, _++_, append-nil}
-use mathlib.Core.Bool.{Bool, true, false, cond, _&&_, _||_}
-use Prim.Native.Nat.{ℕ, zero, suc, _+_, _*_, _-_, _%_, _≤_, _<_}
+use mathlib.Core.Bool.{Bool, true, cond, _&&_, _||_}
+use Prim.Native.Nat.{ℕ, zero, suc, _+_, _*_, _%_, _≤_, _<_}
 use native.Mathlib.Nat.{not-suc-le-zero, le-of-suc-le-suc, mod-eq-of-lt}
 use native.Mathlib.Omega.{arith}
 use lib.Dec.{eqb}
@@ -13,23 +13,26 @@ use Rattle.lists.specs.Lists.{keep}
 use Rattle.lists.specs.Keyed.{put, mapValues}
 use Rattle.lists.proofs.Tests.{cond-same}
 use Rattle.cells.specs.Area.{fit, written}
-use Rattle.cells.specs.Find.{Sorted}
-use Rattle.cells.specs.Pairs.{pairArea, pairsOf}
-use Rattle.cells.proofs.Lent.{cells-from, tail-is}
+use Rattle.cells.proofs.Lent.{cells-from}
 use Rattle.window.specs.Window.{numbers, distance, inside, advance, bit, marked, shift, mark}
 use Rattle.window.proofs.Numbers.{distance-self}
-use Rattle.rules.specs.Settings.{Config, linkMost, linkCells, recordHeadCells, recordCells}
 use Rattle.rules.specs.declared.Ogm.{Ogm}
+use Rattle.rules.specs.declared.Policy.{Policy}
+use Rattle.rules.specs.Settings.{Config, Follows, linkMost, linkCells, recordHeadCells, recordCells}
 use Rattle.rules.specs.Rules.{sequenceOf}
 use Rattle.rules.specs.Table.{TableRecord, marksAt, isHighest, firstRecord, nextRecord, isMarked}
 use Rattle.rules.proofs.Counting.{advance-inside}
-use Rattle.table_record.specs.Record.{addressAt, currentAt, timeAt, lastTtlAt, linksAt, bestAt, linksOf, encodeRecord, decodeRecord, Held}
-use Rattle.table_record.proofs.Routes.{links-sorted}
-use Rattle.count_in_record.specs.Counting.{ogm, Counted}
+use Rattle.table_record.specs.Links.{linkArea, linksFrom}
+use Rattle.table_record.specs.Record.{addressAt, currentAt, timeAt, lastTtlAt, linksAt, bestAt, linksPart, linksOf, encodeRecord, decodeRecord}
+use Rattle.count_best_link.specs.declared.Step.{Step}
 use Rattle.count_best_link.specs.BestLink.{Links, moved, chosen}
+use Rattle.count_links.specs.declared.Left.{Left}
 use Rattle.count_links.specs.Links.{stays, scratchCells, Built, Recounted}
 use Rattle.count_links.proofs.Cells.{cellsOf}
 use Rattle.count_links.proofs.Places.{mark-has}
+use Rattle.count_in_record.specs.declared.Counting.{Counting}
+use Rattle.count_in_record.specs.declared.Counting.the-variants.{Done, LinksFull}
+use Rattle.count_in_record.specs.Counting.{endOf, hasRoom, Counted}
 
 -- five fields and the links written
 pub store-cells : (row links : List ℕ) (a b c d e : ℕ) → length row ≡ recordCells → length links ≡ linkMost * linkCells
@@ -60,17 +63,19 @@ module _ {out : List ℕ} {m : ℕ} {goal : Links} (b : Built out m [] goal) whe
   done-cells = b .cells ∙ ap (λ (l : Links). fit (length out) (cellsOf l)) all-there
 
   -- its first cells are those of a record's links
-  done-links : linkMost * linkCells ≤ length out → take (linkMost * linkCells) out ≡ pairArea linkMost goal
+  done-links : linkMost * linkCells ≤ length out → take (linkMost * linkCells) out ≡ linkArea linkMost goal
   done-links h = ap (take (linkMost * linkCells)) done-cells ∙ take-fit (linkMost * linkCells) (length out) (cellsOf goal) h
 
 -- ---- the next record
 
+pub number-is : (m : Ogm) → m .sequence < numbers → m .sequence ≡ sequenceOf m
+number-is m h = sym (mod-eq-of-lt h)
+
 -- what the code knows: the current number that it computed and how far that lies above the old one and the message's, and the part of the row that it lent
-module _ (κ : Config) (row : List ℕ) (ttl time : ℕ) {out : List ℕ} {w key number links b next d k : ℕ} (ew : κ .settings .window ≡ w) (small : number < numbers)
-    (en : next ≡ advance w (getD row currentAt 0) number) (ed : d ≡ distance next (getD row currentAt 0)) (ek : k ≡ distance next number)
-    (g : Recounted out links b key k (getD row bestAt 0) (moved w d (getD row linksAt 0) (take (length row - recordHeadCells) (drop recordHeadCells row)))) where
-  abbrev m : Ogm
-  m = ogm key number ttl time
+module _ (κ : Config) (row : List ℕ) (m : Ogm) {p : Policy} (f : Follows κ p) (small : m .sequence < numbers) {part : List ℕ} {next up below : ℕ}
+    (en : next ≡ advance (p .window) (getD row currentAt 0) (m .sequence)) (eu : up ≡ distance next (getD row currentAt 0)) (eb : below ≡ distance next (m .sequence)) (el : part ≡ linksPart row) where
+  abbrev step : Step
+  step = record { policy = p; up = up; below = below }
 
   abbrev after : TableRecord
   after = nextRecord κ m (decodeRecord row .1)
@@ -78,44 +83,49 @@ module _ (κ : Config) (row : List ℕ) (ttl time : ℕ) {out : List ℕ} {w key
   abbrev current : ℕ
   current = advance (κ .settings .window) (getD row currentAt 0) (sequenceOf m)
 
-  number-is : number ≡ sequenceOf m
-  number-is = sym (mod-eq-of-lt small)
-
   current-is : next ≡ current
-  current-is = en ∙ (λ i. advance (sym ew i) (getD row currentAt 0) (number-is i))
+  current-is = en ∙ (λ i. advance (f .window i) (getD row currentAt 0) (number-is m small i))
 
-  abbrev held : Links
-  held = mapValues (shift (κ .settings .window) (distance current (getD row currentAt 0))) (pairsOf (getD row linksAt 0) (drop recordHeadCells row))
+  below-is : below ≡ distance current (sequenceOf m)
+  below-is = eb ∙ (λ i. distance (current-is i) (number-is m small i))
 
-  here : Recounted out links b key (distance current (sequenceOf m)) (getD row bestAt 0) held
-  here =
-      let el : moved w d (getD row linksAt 0) (take (length row - recordHeadCells) (drop recordHeadCells row)) ≡ held =
-      λ i. mapValues (shift (sym ew i) ((ed ∙ ap (λ (x : ℕ). distance x (getD row currentAt 0)) current-is) i)) (pairsOf (getD row linksAt 0) (tail-is row recordHeadCells i)) in
-      let e : k ≡ distance current (sequenceOf m) = ek ∙ (λ i. distance (current-is i) (number-is i)) in
-      subst (λ (x : ℕ). Recounted out links b key x (getD row bestAt 0) held) e (subst (λ (l : Links). Recounted out links b key k (getD row bestAt 0) l) el g)
+  abbrev ls : Links
+  ls = moved step (getD row linksAt 0) part
 
-  best-is : b ≡ after .best
-  unfolding nextRecord decodeRecord
-  best-is = here .chose κ
+  links-held : ls ≡ mapValues (shift (κ .settings .window) (distance current (getD row currentAt 0))) (linksOf row)
+  links-held = λ i. mapValues (shift (f .window i) ((eu ∙ ap (λ (x : ℕ). distance x (getD row currentAt 0)) current-is) i)) (linksFrom (getD row linksAt 0) (el i))
 
-  links-are : Built out links [] (after .links)
-  unfolding nextRecord decodeRecord
-  links-are =
-      let v : ℕ = mark (marksAt held key) (distance current (sequenceOf m)) in
-      subst (λ (x : ℕ). Built out links [] (keep (stays x) (put key v held))) best-is (here .links)
+  module _ {out : List ℕ} {left : Left} (g : Recounted out left step (m .link) (getD row bestAt 0) ls) where
+    best-is : left .best ≡ after .best
+    unfolding nextRecord decodeRecord
+    best-is =
+        g .chose κ f
+        ∙ (λ i. chosen κ (m .link) (mark (marksAt (links-held i) (m .link)) (below-is i)) (getD row bestAt 0) (put (m .link) (mark (marksAt (links-held i) (m .link)) (below-is i)) (links-held i)))
 
-  pub counted-not : linkMost < links → Counted κ m row row false
-  counted-not h = let e = done-size links-are in record { taken = sym (lt-leb (length (after .links)) linkMost (omega arith)); cells = refl }
+    links-are : Built out (left .links) [] (after .links)
+    unfolding nextRecord decodeRecord
+    links-are = subst (Built out (left .links) []) (λ i. keep (stays (best-is i)) (put (m .link) (mark (marksAt (links-held i) (m .link)) (below-is i)) (links-held i))) (g .links)
 
-  pub counted-now : (row2 : List ℕ) → length out ≡ scratchCells → links ≤ linkMost
-      → row2 ≡ getD row addressAt 0 ∷ next ∷ time ∷ ttl ∷ links ∷ b ∷ take (linkMost * linkCells) out → Counted κ m row row2 true
-  unfolding encodeRecord nextRecord decodeRecord
-  counted-now row2 len h e =
-      let es = done-size links-are in
-      record {
-        taken = sym (le-leb (length (after .links)) linkMost (omega arith));
-        cells = e ∙ (λ i. getD row addressAt 0 ∷ current-is i ∷ time ∷ ttl ∷ es i ∷ best-is i ∷ done-links links-are (omega arith) i);
-      }
+    pub counted-not : linkMost < left .links → Counted κ m row row LinksFull
+    counted-not h =
+        let e = done-size links-are in
+        let full = lt-leb (length (after .links)) linkMost (omega arith) in
+        record {
+          end = sym (ap (λ (t : Bool). cond {A = Counting} t Done LinksFull) full);
+          cells = sym (ap (λ (t : Bool). cond t (encodeRecord (decodeRecord row .0, after)) row) full);
+        }
+
+    pub counted-now : (row2 : List ℕ) → length out ≡ scratchCells → left .links ≤ linkMost
+        → row2 ≡ getD row addressAt 0 ∷ next ∷ m .time ∷ m .ttl ∷ left .links ∷ left .best ∷ take (linkMost * linkCells) out → Counted κ m row row2 Done
+    unfolding encodeRecord nextRecord decodeRecord
+    counted-now row2 len h e =
+        let es = done-size links-are in
+        let room = le-leb (length (after .links)) linkMost (omega arith) in
+        let cells : row2 ≡ encodeRecord (decodeRecord row .0, after) = e ∙ (λ i. getD row addressAt 0 ∷ current-is i ∷ m .time ∷ m .ttl ∷ es i ∷ best-is i ∷ done-links links-are (omega arith) i) in
+        record {
+          end = sym (ap (λ (t : Bool). cond {A = Counting} t Done LinksFull) room);
+          cells = cells ∙ sym (ap (λ (t : Bool). cond t (encodeRecord (decodeRecord row .0, after)) row) room);
+        }
 
 -- the number lies inside the window that it leaves
 pub next-near : (w c n : ℕ) {next k : ℕ} → 1 ≤ w → next ≡ advance w c n → k ≡ distance next n → k < w
@@ -125,46 +135,45 @@ pub inside-near : (w c n : ℕ) {k : ℕ} → inside w c n ≡ true → k ≡ di
 unfolding inside
 inside-near w c n h ek = subst (λ (x : ℕ). x < w) (sym ek) (ltb-true (distance c n) w h)
 
--- what is known of the links in the part of a row that is lent
-pub part-sorted : (row : List ℕ) → Held row → Sorted linkCells (getD row linksAt 0) (take (length row - recordHeadCells) (drop recordHeadCells row))
-part-sorted row h = subst (λ (l : List ℕ). Sorted linkCells (getD row linksAt 0) l) (sym (tail-is row recordHeadCells)) (links-sorted row h)
-
 -- ---- the first record
 
-module _ (κ : Config) (key number ttl time : ℕ) (small : number < numbers) where
-  abbrev first : TableRecord
-  first = record { current = number; time = time; lastTtl = ttl; best = key; links = (key, mark 0 0) ∷ [] }
+module _ (κ : Config) (m : Ogm) (small : m .sequence < numbers) where
+  abbrev pub first : TableRecord
+  first = record { current = m .sequence; time = m .time; lastTtl = m .ttl; best = m .link; links = (m .link, mark 0 0) ∷ [] }
 
-  first-is : first ≡ firstRecord κ (ogm key number ttl time)
+  pub first-is : first ≡ firstRecord κ m
   unfolding firstRecord
   first-is =
-      let n : ℕ = number % numbers in
+      let n : ℕ = m .sequence % numbers in
       let v : ℕ = mark 0 (distance n n) in
-      let ls : Links = (key, v) ∷ [] in
-      let best : ℕ = chosen κ key v key ls in
-      let eb : best ≡ key = cond-same (isHighest κ key v ls) key in
-      let el : keep (stays best) ls ≡ (key, mark 0 0) ∷ [] =
-      ap (λ (t : Bool). cond (t || eqb key best) ls []) (mark-has 0 (distance n n)) ∙ ap (λ (k : ℕ). (key, mark 0 k) ∷ []) (distance-self n) in
-      sym (λ i. record { current = mod-eq-of-lt small i; time = time; lastTtl = ttl; best = eb i; links = el i })
+      let ls : Links = (m .link, v) ∷ [] in
+      let best : ℕ = chosen κ (m .link) v (m .link) ls in
+      let eb : best ≡ m .link = cond-same (isHighest κ (m .link) v ls) (m .link) in
+      let el : keep (stays best) ls ≡ (m .link, mark 0 0) ∷ [] =
+      ap (λ (t : Bool). cond (t || eqb (m .link) best) ls []) (mark-has 0 (distance n n)) ∙ ap (λ (k : ℕ). (m .link, mark 0 k) ∷ []) (distance-self n) in
+      sym (λ i. record { current = mod-eq-of-lt small i; time = m .time; lastTtl = m .ttl; best = eb i; links = el i })
 
   pub first-cells : (address : ℕ) (before after : List ℕ) {links : List ℕ} {v : ℕ} → 0 < length before → length links ≡ linkMost * linkCells → v ≡ mark 0 0
-      → Built links 1 [] ((key, v) ∷ []) → after ≡ getD (set before addressAt address) addressAt 0 ∷ number ∷ time ∷ ttl ∷ 1 ∷ key ∷ links
-      → after ≡ encodeRecord (address, firstRecord κ (ogm key number ttl time))
+      → Built links 1 [] ((m .link, v) ∷ []) → after ≡ getD (set before addressAt address) addressAt 0 ∷ m .sequence ∷ m .time ∷ m .ttl ∷ 1 ∷ m .link ∷ links
+      → after ≡ encodeRecord (address, firstRecord κ m)
   unfolding encodeRecord
   first-cells address before after {links} {v} h len ev b e =
-      let l : links ≡ pairArea linkMost ((key, mark 0 0) ∷ []) = done-cells b ∙ (λ i. fit (len i) (cellsOf ((key, ev i) ∷ []))) in
-      e ∙ (λ i. getD-set-same before addressAt address 0 h i ∷ number ∷ time ∷ ttl ∷ 1 ∷ key ∷ l i) ∙ ap (λ (r : TableRecord). encodeRecord (address, r)) first-is
+      let l : links ≡ linkArea linkMost ((m .link, mark 0 0) ∷ []) = done-cells b ∙ (λ i. fit (len i) (cellsOf ((m .link, ev i) ∷ []))) in
+      e ∙ (λ i. getD-set-same before addressAt address 0 h i ∷ m .sequence ∷ m .time ∷ m .ttl ∷ 1 ∷ m .link ∷ l i) ∙ ap (λ (r : TableRecord). encodeRecord (address, r)) first-is
 
 -- ---- a number that was counted before
 
-module _ (κ : Config) (row : List ℕ) (w key number : ℕ) (e : κ .settings .window ≡ w) where
-  pub marked-by : {t : Bool} → inside w (getD row currentAt 0) number ≡ t → (t && marked (marksAt (linksOf row) key) (getD row currentAt 0) number) ≡ isMarked κ (decodeRecord row .1) key number
-  unfolding isMarked decodeRecord
-  marked-by h = ap (λ (s : Bool). s && marked (marksAt (linksOf row) key) (getD row currentAt 0) number) (sym (ap (λ (x : ℕ). inside x (getD row currentAt 0) number) e ∙ h))
+module _ (κ : Config) (row : List ℕ) (m : Ogm) {p : Policy} (f : Follows κ p) (small : m .sequence < numbers) where
+  abbrev current-then : ℕ
+  current-then = getD row currentAt 0
 
-  pub marked-inside : {t : Bool} {v k : ℕ} → inside w (getD row currentAt 0) number ≡ true
-      → v ≡ marksAt (pairsOf (getD row linksAt 0) (take (length row - recordHeadCells) (drop recordHeadCells row))) key → k ≡ distance (getD row currentAt 0) number → t ≡ bit v k
-      → t ≡ isMarked κ (decodeRecord row .1) key number
-  marked-inside h ev ek et =
-      let l = ev ∙ ap (λ (x : List ℕ). marksAt (pairsOf (getD row linksAt 0) x) key) (tail-is row recordHeadCells) in
-      et ∙ (λ i. bit (l i) (ek i)) ∙ marked-by h
+  pub marked-by : {t : Bool} → inside (p .window) current-then (m .sequence) ≡ t
+      → (t && marked (marksAt (linksOf row) (m .link)) current-then (m .sequence)) ≡ isMarked κ (decodeRecord row .1) (m .link) (sequenceOf m)
+  unfolding isMarked decodeRecord
+  marked-by h =
+      ap (λ (s : Bool). s && marked (marksAt (linksOf row) (m .link)) current-then (m .sequence)) (sym h)
+      ∙ (λ i. inside (f .window i) current-then (number-is m small i) && marked (marksAt (linksOf row) (m .link)) current-then (number-is m small i))
+
+  pub marked-inside : {t : Bool} {v k : ℕ} → inside (p .window) current-then (m .sequence) ≡ true → v ≡ marksAt (linksOf row) (m .link) → k ≡ distance current-then (m .sequence) → t ≡ bit v k
+      → t ≡ isMarked κ (decodeRecord row .1) (m .link) (sequenceOf m)
+  marked-inside h ev ek et = et ∙ (λ i. bit (ev i) (ek i)) ∙ marked-by h

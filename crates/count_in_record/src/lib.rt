@@ -1,8 +1,14 @@
-// Counting an originator message in a record's row of cells, and what is asked of a record when a message arrives.
-// `key` is the pair of neighbour address and interface that the message came by, and `w` the window size.
+// What a message does to its originator's record, in the record's row of cells: it is counted or not, and then answered.
 use cells_moves::write;
-use count_links::push;
+use count_best_link::Step;
+use count_links::Left;
+use count_links::Spot;
+use count_links::locate;
 use count_links::recount;
+use rules::Ogm;
+use rules::Policy;
+use rules::Route;
+use rules::limits::LINKS_MOST;
 use table_record::ADDRESS;
 use table_record::BEST;
 use table_record::CURRENT;
@@ -10,100 +16,145 @@ use table_record::FIELDS;
 use table_record::LAST_TTL;
 use table_record::LINK;
 use table_record::LINKS;
-use table_record::ROOM;
+use table_record::LINKS_CELLS;
 use table_record::TIME;
-use table_record::marks_of;
+use table_record::links_part;
+use table_record::put_link;
+use table_record::route_of;
+use window::Marks;
 use window::advance;
 use window::distance;
 use window::inside;
 use window::is_marked;
 use window::mark;
+use window::no_marks;
 ghost use mathlib.Core.Path.{_≡_};
+ghost use mathlib.Core.Bool.{true};
 ghost use mathlib.Core.List.{_∷_};
-ghost use Prim.Native.Nat.{_*_, _≤_};
+ghost use mathlib.Core.Option.{some};
+ghost use Prim.Native.Nat.{_*_};
 ghost use lib.Dec.{eqb};
 ghost use lib.ListN.{length, getD};
-ghost use Rattle.rules.specs.Settings.{Config, windowMost, linkMost, linkCells, recordCells};
-ghost use Rattle.rules.specs.Table.{firstRecord, isMarked};
-ghost use Rattle.table_record.specs.Record.{addressAt, encodeRecord, decodeRecord, Held};
-ghost use Rattle.count_in_record.specs.Counting.{ogm, Counted};
-
-// The cells of a record's links.
-const AREA: usize = ROOM as usize * LINK;
+ghost use Rattle.window.specs.Marks.{wordOf};
+ghost use Rattle.rules.specs.Settings.{Config, Follows, Bounded, isAddress, linkMost, linkCells, recordCells};
+ghost use Rattle.rules.specs.Calls.{neighbourOf};
+ghost use Rattle.rules.specs.Rules.{sequenceOf, routeOf};
+ghost use Rattle.rules.specs.Table.{table, marksAt, firstRecord, isMarked};
+ghost use Rattle.table_record.specs.Record.{addressAt, linksOf, encodeRecord, decodeRecord, Held};
+ghost use Rattle.count_links.specs.Links.{SpotOf};
+ghost use Rattle.count_in_record.specs.Counting.{Counted, Answered, HeardIn};
 
 // Room for one link more: the ninth is there only until it is known whether another gives up its place.
-const SCRATCH: usize = AREA + LINK;
+const SCRATCH: usize = LINKS_CELLS + LINK;
 
-// Writes a record's cells after its address.
-fn store(row: &mut [u64], current: u64, time: u64, ttl: u64, n: u64, best: u64, links: &[u64])
+// How counting ends: done, or refused since more links than there is room for would have marks or be best.
+pub enum Counting {
+    Done,
+    LinksFull,
+}
+
+// What is answered of a message: how counting it ended, whether it was no duplicate or had the last TTL, whether its link is best, and the route
+// of its originator.
+pub struct Heard {
+    pub counting: Counting,
+    pub fresh: bool,
+    pub best: bool,
+    pub route: Route,
+}
+
+// Writes a record's cells after its address: the window's current number, the message that was counted, and the links.
+fn store(row: &mut [u64], current: u16, m: Ogm, left: Left, links: &[u64])
     requires { ⌜ (length (now row) ≡ recordCells) × (length (now links) ≡ linkMost * linkCells) ⌝ }
-    ensures { λ _. ⌜ now (row .exit) ≡ getD (now (row .entry)) addressAt 0 ∷ current ∷ time ∷ ttl ∷ n ∷ best ∷ now (links .entry) ⌝ }
+    ensures { λ _. ⌜ now (row .exit) ≡ getD (now (row .entry)) addressAt 0 ∷ current ∷ m .time ∷ m .ttl ∷ left .links ∷ left .best ∷ now (links .entry) ⌝ }
 {
-    row[CURRENT] = current;
-    row[TIME] = time;
-    row[LAST_TTL] = ttl;
-    row[LINKS] = n;
-    row[BEST] = best;
+    row[CURRENT] = current as u64;
+    row[TIME] = m.time;
+    row[LAST_TTL] = m.ttl as u64;
+    row[LINKS] = left.links as u64;
+    row[BEST] = left.best;
     write(row, FIELDS, links);
 }
 
-// Counts a message that came by this link. False, and nothing changes, where more than 8 links would have marks or be best: the links are
-// written to a scratch first, and to the row once it is known that they fit.
-pub fn count_message(row: &mut [u64], w: u64, key: u64, number: u16, ttl: u64, time: u64) -> bool
-    requires { ⌜ Held (now row) × (1 ≤ w) × (w ≤ windowMost) ⌝ }
-    ensures { λ r. ⌜ ((κ : Config) → κ .settings .window ≡ w → Counted κ (ogm key number ttl time) (now (row .entry)) (now (row .exit)) r) ⌝ }
+// Counts a message whose link stands at this spot. Nothing changes where the links are full: they are written to a scratch first, and to the row
+// once it is known that they fit.
+fn count_message(row: &mut [u64], p: Policy, m: Ogm, spot: Spot) -> Counting
+    requires { ⌜ Held (now row) × Bounded p × SpotOf (linksOf (now row)) (m .link) spot ⌝ }
+    ensures { λ r. ⌜ ((κ : Config) → Follows κ p → Counted κ m (now (row .entry)) (now (row .exit)) r) ⌝ }
 {
     let current = row[CURRENT] as u16;
     let n = row[LINKS] as usize;
-    let next = advance(w, current, number);
-    let d = distance(next, current);
-    let k = distance(next, number);
+    let next = advance(p.window, current, m.sequence);
+    let up = distance(next, current);
+    let below = distance(next, m.sequence);
+    let step = Step {
+        policy: p,
+        up,
+        below,
+    };
     let mut out = [0u64; SCRATCH];
-    let done = recount(&mut out, &row[FIELDS..], n, w, d, k, key, row[BEST]);
-    let links = done.links as u64;
-    if ROOM < links {
-        return false;
+    let left = recount(&mut out, links_part(row), n, spot, step, m.link, row[BEST]);
+    if LINKS_MOST < left.links as u64 {
+        return Counting::LinksFull;
     }
-    store(row, next as u64, time, ttl, links, done.best, &out[..AREA]);
-    true
+    store(row, next, m, left, &out[..LINKS_CELLS]);
+    Counting::Done
 }
 
 // Writes the record that the first counted message makes, whatever the row held.
-pub fn first_record(row: &mut [u64], address: u64, key: u64, number: u16, ttl: u64, time: u64)
+pub fn first_record(row: &mut [u64], address: u64, m: Ogm)
     requires { ⌜ length (now row) ≡ recordCells ⌝ }
-    ensures { λ _. ⌜ ((κ : Config) → now (row .exit) ≡ encodeRecord (address, firstRecord κ (ogm key number ttl time))) ⌝ }
+    ensures { λ _. ⌜ ((κ : Config) → now (row .exit) ≡ encodeRecord (address, firstRecord κ m)) ⌝ }
 {
-    let mut links = [0u64; AREA];
-    push(&mut links, 0, key, mark(0, 0));
+    let mut links = [0u64; LINKS_CELLS];
+    put_link(&mut links, 0, m.link, mark(no_marks(), 0));
     row[ADDRESS] = address;
-    store(row, number as u64, time, ttl, 1, key, &links);
+    let left = Left {
+        links: 1,
+        best: m.link,
+    };
+    store(row, m.sequence, m, left, &links);
 }
 
-// Whether the number is inside the window and already marked on this link.
-pub fn is_duplicate(row: &[u64], w: u64, key: u64, number: u16) -> bool
-    requires { ⌜ Held (now row) × (w ≤ windowMost) ⌝ }
-    ensures { λ r. ⌜ ((κ : Config) → κ .settings .window ≡ w → r ≡ isMarked κ (decodeRecord (now (row .entry)) .1) key number) ⌝ }
+// Whether the message's number is inside the window and already marked on its link, which has these marks.
+fn is_duplicate(row: &[u64], p: Policy, m: Ogm, marks: Marks) -> bool
+    requires { ⌜ Held (now row) × Bounded p × (wordOf marks ≡ marksAt (linksOf (now row)) (m .link)) ⌝ }
+    ensures { λ r. ⌜ ((κ : Config) → Follows κ p → r ≡ isMarked κ (decodeRecord (now (row .entry)) .1) (m .link) (sequenceOf m)) ⌝ }
 {
     let current = row[CURRENT] as u16;
-    if !inside(w, current, number) {
+    if !inside(p.window, current, m.sequence) {
         return false;
     }
-    let marks = marks_of(&row[FIELDS..], row[LINKS] as usize, key);
-    is_marked(marks, distance(current, number))
+    is_marked(marks, distance(current, m.sequence))
 }
 
-// Whether this link is best.
-pub fn is_best(row: &[u64], key: u64) -> bool
-    requires { ⌜ length (now row) ≡ recordCells ⌝ }
-    ensures { λ r. ⌜ r ≡ eqb (decodeRecord (now (row .entry)) .1 .best) key ⌝ }
+// The answer to a message, by the row as it is left.
+fn answer(row: &[u64], p: Policy, m: Ogm, counting: Counting, fresh: bool) -> Heard
+    requires { ⌜ Held (now row) × Bounded p ⌝ }
+    ensures { λ r. ⌜ ((κ : Config) → Follows κ p → Answered κ m (decodeRecord (now (row .entry)) .1) counting fresh r) ⌝ }
 {
-    row[BEST] == key
+    let best = row[BEST] == m.link;
+    let route = route_of(row, p.window as u32);
+    Heard {
+        counting,
+        fresh,
+        best,
+        route,
+    }
 }
 
-// Whether the TTL is that of the last counted message.
-pub fn is_last_ttl(row: &[u64], ttl: u64) -> bool
-    requires { ⌜ length (now row) ≡ recordCells ⌝ }
-    ensures { λ r. ⌜ r ≡ eqb ttl (decodeRecord (now (row .entry)) .1 .lastTtl) ⌝ }
+// What a message does to its originator's record: a message that comes by a bidirectional link and is no duplicate is counted. Duplicate and last TTL
+// are judged before counting, best and route after it.
+pub fn hear(row: &mut [u64], p: Policy, m: Ogm, bidirectional: bool) -> Heard
+    requires { ⌜ Held (now row) × Bounded p × (isAddress (neighbourOf (m .link)) ≡ true) ⌝ }
+    ensures { λ r. ⌜ ((κ : Config) → Follows κ p → HeardIn κ m bidirectional (now (row .entry)) (now (row .exit)) r) ⌝ }
 {
-    ttl == row[LAST_TTL]
+    let spot = locate(links_part(row), row[LINKS] as usize, m.link);
+    let marks = spot.marks;
+    let duplicate = is_duplicate(row, p, m, marks);
+    let fresh = !duplicate | (m.ttl as u64 == row[LAST_TTL]);
+    if !(bidirectional & !duplicate) {
+        return answer(row, p, m, Counting::Done, fresh);
+    }
+    let counting = count_message(row, p, m, spot);
+    answer(row, p, m, counting, fresh)
 }

@@ -3,12 +3,12 @@ use mathlib.Core.Path.{_≡_, refl, sym, ap, _∙_, subst}
 use mathlib.Core.List.{List, [], _∷_, _++_, map}
 use mathlib.Core.Bool.{Bool, true, false, cond, _||_, not}
 use mathlib.Core.Option.{Option, none, some, Option·map}
-use Prim.Native.Nat.{ℕ, zero, suc, _+_, _*_, _-_, _<_}
+use Prim.Native.Nat.{ℕ, zero, suc, _+_, _*_, _≤_, _<_}
 use native.Mathlib.Nat.{zero-mul, zero-mod}
 use native.Mathlib.Omega.{arith}
 use native.Mathlib.Numerals.{add-one}
 use lib.Dec.{ltb, eqb}
-use lib.ListN.{length, take, drop, getD, length-map}
+use lib.ListN.{length, take, drop, length-map}
 use borrow.Author.Tests.{lt-ltb, ltb-false, eq-eqb}
 use Rattle.lists.specs.Lists.{maybe, keep, all}
 use Rattle.lists.specs.Keyed.{lookup, put, mapValues}
@@ -16,23 +16,27 @@ use Rattle.lists.proofs.Tests.{and-left, and-right}
 use Rattle.lists.proofs.Lists.{keep-append, keep-map, all-append, all-keep, all-meet}
 use Rattle.lists.proofs.Keyed.{lookup-mapValues, all-put}
 use Rattle.cells.specs.Area.{column}
-use Rattle.cells.specs.Pairs.{pairOf, pairsOf}
 use Rattle.cells.specs.declared.Found.{Found}
 use Rattle.cells.specs.declared.Found.the-variants.{At, Place}
 use Rattle.cells.specs.Find.{Sorted, IsAt, FoundIn}
 use Rattle.cells.proofs.Bools.{same-test}
 use Rattle.cells.proofs.Keys.{length-column}
-use Rattle.cells.proofs.Pairs.{length-pairs}
 use Rattle.cells.proofs.Trips.{map-take}
-use Rattle.cells.proofs.Search.{found-at, found-place, at-below}
+use Rattle.cells.proofs.Search.{at-below}
 use Rattle.window.specs.Window.{bit, shift, mark, count, hasMark}
+use Rattle.window.specs.declared.Marks.{Marks}
+use Rattle.window.specs.Marks.{wordOf}
 use Rattle.window.proofs.Bits.{bit-zero, bit-mark}
 use Rattle.rules.specs.Settings.{Config, linkCells}
 use Rattle.rules.specs.Rules.{notHigher}
 use Rattle.rules.specs.Table.{marksAt}
-use Rattle.table_record.proofs.Routes.{marks-within, marks-found, marks-missing}
+use Rattle.table_record.specs.Links.{linksFrom, linkAt}
+use Rattle.table_record.proofs.Links.{length-links, link-within, link-among, link-apart, marks-found, marks-missing}
+use Rattle.count_best_link.specs.declared.Step.{Step}
 use Rattle.count_best_link.specs.BestLink.{Links, moved, yields, chosen}
-use Rattle.count_links.specs.Links.{stays, Located, Built, Arranged, Recounted}
+use Rattle.count_links.specs.declared.Spot.{Spot}
+use Rattle.count_links.specs.declared.Left.{Left}
+use Rattle.count_links.specs.Links.{stays, Located, SpotOf, Built, Arranged, Recounted}
 
 -- ---- what a search found
 
@@ -41,33 +45,33 @@ module _ (n : ℕ) (c : List ℕ) (s : Sorted linkCells n c) (key : ℕ) {f : Fo
     is-at : IsAt (column linkCells n c) key i
     is-at = subst (FoundIn (column linkCells n c) key) e found
 
-    -- the cell of its marks
-    pub found-within : i * linkCells + 1 < length c
-    found-within = marks-within n c s key i is-at
+    -- its cells are there
+    pub found-within : (i + 1) * linkCells ≤ length c
+    found-within = link-within n c key i s is-at
 
-    pub located-at : Located (pairsOf n c) key i (i + 1) (getD c (i * linkCells + 1) 0)
-    located-at =
+    pub located-at : {v : ℕ} → v ≡ linkAt c i .1 → Located (linksFrom n c) key i (i + 1) v
+    located-at ev =
         let h = at-below linkCells n c key i is-at in
-        let a = found-at pairOf (λ r. refl) linkCells n c s key i is-at in
+        let a = link-among n c key i s is-at in
         record {
           order = omega arith;
-          within = omega (arith, length-pairs n c);
+          within = omega (arith, length-links n c);
           below = a .below;
-          above = a .above ∙ ap (λ (k : ℕ). drop k (pairsOf n c)) (sym (add-one i));
-          word = marks-found n c s key i is-at;
+          above = a .above ∙ ap (λ (k : ℕ). drop k (linksFrom n c)) (sym (add-one i));
+          marks = ev ∙ marks-found n c key i s is-at;
         }
 
-  pub located-place : f ≡ Place i → Located (pairsOf n c) key i i 0
-  located-place e =
+  pub located-place : {v : ℕ} → v ≡ 0 → f ≡ Place i → Located (linksFrom n c) key i i v
+  located-place ev e =
       let p = subst (FoundIn (column linkCells n c) key) e found in
       let h = p .within in
-      let a = found-place pairOf (λ r. refl) linkCells n c key i p in
+      let a = link-apart n c key i p in
       record {
         order = omega arith;
-        within = omega (arith, length-pairs n c, length-column linkCells n c);
+        within = omega (arith, length-links n c, length-column linkCells n c);
         below = a .below;
         above = a .above;
-        word = marks-missing n c s key i p;
+        marks = ev ∙ marks-missing n c key i p;
       }
 
 -- ---- links whose words have changed stand where they stood
@@ -91,7 +95,7 @@ module _ (f : ℕ → ℕ) (zero-is : f 0 ≡ 0) (ls : Links) (key low high v : 
         within = omega (arith, length-map ls turn);
         below = keep-map turn (λ e. ltb (e .0) key) ls ∙ ap (map turn) (s .below) ∙ map-take turn low ls;
         above = keep-map turn (λ e. ltb key (e .0)) ls ∙ ap (map turn) (s .above) ∙ map-drop turn high ls;
-        word = ap f (s .word) ∙ word-of (lookup key ls) ∙ sym (ap (λ (o : Option ℕ). maybe o 0 (λ x. x)) (lookup-mapValues f key ls));
+        marks = ap f (s .marks) ∙ word-of (lookup key ls) ∙ sym (ap (λ (o : Option ℕ). maybe o 0 (λ x. x)) (lookup-mapValues f key ls));
       }
 
 shift-none : (w d : ℕ) → shift w d 0 ≡ 0
@@ -144,15 +148,17 @@ module _ {ls : Links} {key low high u : ℕ} (s : Located ls key low high u) (v 
       sym ((λ i. keep (stays b) (s .below i ++ ((key, v) ∷ s .above i))) ∙ keep-append (stays b) (take low ls) ((key, v) ∷ drop high ls)
       ∙ ap (λ (t : Bool). keep (stays b) (take low ls) ++ cond (t || eqb key b) ((key, v) ∷ keep (stays b) (drop high ls)) (keep (stays b) (drop high ls))) h)
 
-  recounted : (out : List ℕ) (n b k best : ℕ) → v ≡ mark u k → Arranged out n b low high key v best ls → Recounted out n b key k best ls
-  recounted out n b k best e a =
-      let ev : v ≡ mark (marksAt ls key) k = e ∙ ap (λ (x : ℕ). mark x k) (s .word) in
-      record {
-        chose = λ κ. a .chose κ ∙ chosen-put κ key v best ls ∙ ap (λ (x : ℕ). chosen κ key x best (put key x ls)) ev;
-        links = subst (λ (l : Links). Built out n [] l) (kept-put b (ap hasMark e ∙ mark-has u k) ∙ ap (λ (x : ℕ). keep (stays b) (put key x ls)) ev) (a .links);
-      }
-
-pub recount-done : (part : List ℕ) (w d n : ℕ) {out : List ℕ} {key low high u v k best m b s : ℕ} → Located (pairsOf n part) key low high u → s ≡ shift w d u → v ≡ mark s k
-    → Arranged out m b low high key v best (moved w d n part) → Recounted out m b key k best (moved w d n part)
-recount-done part w d n {out} {key} {low} {high} {u} {v} {k} {best} {m} {b} l es ev a =
-    recounted (located-values (shift w d) (shift-none w d) (pairsOf n part) key low high u l) v out m b k best (ev ∙ ap (λ (x : ℕ). mark x k) es) a
+-- this link stood at `held`, its marks are shifted to s and then marked
+pub recount-done : (part : List ℕ) (step : Step) (n : ℕ) (held : Spot) (marks : Marks) {out : List ℕ} {key best s : ℕ} {r : Left} → SpotOf (linksFrom n part) key held
+    → s ≡ shift (step .policy .window) (step .up) (wordOf (held .marks)) → wordOf marks ≡ mark s (step .below)
+    → Arranged out r (record { low = held .low; high = held .high; marks = marks }) (step .policy) key best (moved step n part) → Recounted out r step key best (moved step n part)
+recount-done part step n held marks {out} {key} {best} {s} {r} l es ev a =
+    let ls = moved step n part in
+    let at = located-values (shift (step .policy .window) (step .up)) (shift-none (step .policy .window) (step .up)) (linksFrom n part) key (held .low) (held .high) (wordOf (held .marks)) l in
+    let v : ℕ = wordOf marks in
+    let k : ℕ = step .below in
+    let e : v ≡ mark (marksAt ls key) k = ev ∙ ap (λ (x : ℕ). mark x k) (es ∙ at .marks) in
+    record {
+      chose = λ κ f. a .chose κ f ∙ chosen-put κ key v best ls ∙ ap (λ (x : ℕ). chosen κ key x best (put key x ls)) e;
+      links = subst (Built out (r .links) []) (kept-put at v (r .best) (ap hasMark ev ∙ mark-has s k) ∙ ap (λ (x : ℕ). keep (stays (r .best)) (put key x ls)) e) (a .links);
+    }

@@ -10,7 +10,7 @@ use Rattle.rules.specs.declared.Written.{Written}
 use Rattle.rules.specs.declared.Swept.{Swept}
 use Rattle.rules.specs.declared.Asked.{Asked}
 use Rattle.rules.specs.declared.Listed.{Listed}
-use Rattle.rules.specs.Settings.{MakeArgs, interfaceMost, within}
+use Rattle.rules.specs.Settings.{MakeArgs, interfaceMost, addresses, within}
 
 -- ---- links
 
@@ -23,6 +23,10 @@ neighbourOf link = link / interfaceMost
 
 unfoldable pub interfaceOf : (link : ℕ) → ℕ
 interfaceOf link = link % interfaceMost
+
+-- how many pairs there are: a link of an address in its range is below it
+abbrev pub pairs : ℕ
+pairs = addresses * interfaceMost
 
 -- ---- calls
 

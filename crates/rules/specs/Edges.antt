@@ -1,5 +1,5 @@
 -- The edges of the rules, each limit and one beyond it, as a table of rows like those of P1 to P12.
-use Prim.Native.Nat.{ℕ, zero, suc, _*_}
+use Prim.Native.Nat.{ℕ, zero, suc, _+_, _-_, _*_}
 use mathlib.Core.Bool.{true, false}
 use mathlib.Core.List.{List, [], _∷_, _++_, map}
 use lib.ListN.{replicate}
@@ -246,9 +246,9 @@ edges =
     ∷ row (tried defaults 5 (1 ∷ 2 ∷ 3 ∷ 4 ∷ [])) (12 ∷ [])
     ∷ row (tried defaults 3 (1 ∷ 2 ∷ 3 ∷ 3 ∷ [])) (0 ∷ [])
     ∷ row (tried defaults 4 (1 ∷ 2 ∷ 3 ∷ 3 ∷ [])) (12 ∷ [])
-    -- the number of cells, one fewer and one more; a refused make changes nothing
-    ∷ row (makes 1501 (makeArgs defaults 1 (1 ∷ []))) (0 ∷ [])
-    ∷ row (makes 1500 (makeArgs defaults 1 (1 ∷ []))) (12 ∷ [])
-    ∷ row (makes 1502 (makeArgs defaults 1 (1 ∷ []))) (12 ∷ [])
+    -- the number of cells that 64 originators need, one fewer and one more; a refused make changes nothing
+    ∷ row (makes (cellsNeeded 64) (makeArgs defaults 1 (1 ∷ []))) (0 ∷ [])
+    ∷ row (makes (cellsNeeded 64 - 1) (makeArgs defaults 1 (1 ∷ []))) (12 ∷ [])
+    ∷ row (makes (cellsNeeded 64 + 1) (makeArgs defaults 1 (1 ∷ []))) (12 ∷ [])
     ∷ row (plays single (make (makeArgs defaults 1 (1 ∷ [])) ∷ ask 900 ∷ [])) (12 ∷ 0 ∷ 20 ∷ 1 ∷ [])
     ∷ []

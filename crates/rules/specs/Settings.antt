@@ -44,11 +44,17 @@ ttlLeast = 2
 
 -- ---- ranges of values: an octet, an address of four octets, a sequence number of two, a time of 64 bits
 
+abbrev pub octets : ℕ
+octets = 256
+
 abbrev pub isOctet : ℕ → Bool
-isOctet n = ltb n 256
+isOctet n = ltb n octets
+
+abbrev pub addresses : ℕ
+addresses = 4294967296
 
 abbrev pub isAddress : ℕ → Bool
-isAddress n = ltb n 4294967296
+isAddress n = ltb n addresses
 
 abbrev pub isNumber : ℕ → Bool
 isNumber n = ltb n numbers

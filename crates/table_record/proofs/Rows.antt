@@ -6,48 +6,62 @@ use mathlib.Core.Bool.{Bool, true, false, false≢true}
 use Prim.Native.Nat.{ℕ, _+_, _*_, _-_, _/_, _≤_, _<_}
 use native.Mathlib.Omega.{arith}
 use lib.Dec.{leb, ltb}
-use lib.ListN.{length, drop, getD, length-append, length-drop}
-use lib.Seq.{drop-drop}
+use lib.ListN.{length, take, drop, getD, length-append, length-drop}
+use lib.Seq.{take-all}
 use borrow.Author.Tests.{lt-ltb, le-ltb, ltb-true, ltb-false, leb-true}
 use Rattle.lists.specs.Lists.{maybe, and, all}
 use Rattle.lists.specs.Keyed.{lookup}
 use Rattle.cells.specs.Area.{allZero}
-use Rattle.cells.specs.Pairs.{pairRow, pairCells, pairArea, pairsOf}
 use Rattle.lists.proofs.Keyed.{lookup-all}
 use Rattle.lists.proofs.Tests.{and-left, and-right, both, and-at}
 use Rattle.cells.proofs.Areas.{length-area}
-use Rattle.cells.proofs.Pairs.{pair-wide, pairs-trip, pairs-area, pairs-rest, length-pairs}
 use Rattle.cells.proofs.Lent.{cells-from}
-use Rattle.rules.specs.Settings.{Config, linkMost, linkCells, recordHeadCells, recordCells, isAddress}
-use Rattle.rules.specs.Calls.{neighbourOf}
+use Rattle.window.specs.Window.{numbers}
+use Rattle.rules.specs.Settings.{Config, linkMost, linkCells, recordHeadCells, recordCells, octets, addresses, isAddress}
+use Rattle.rules.specs.Calls.{neighbourOf, pairs}
 use Rattle.rules.specs.Table.{TableRecord}
 use Rattle.rules.specs.WellFormed.{linkTests, recordTests}
-use Rattle.table_record.specs.Record.{currentAt, lastTtlAt, linksAt, bestAt, fieldsOf, encodeRecord, linksOf, decodeRecord, unusedLinks, recordOk, Held}
+use Rattle.table_record.specs.Links.{linkAreaCells, linkRow, linkArea, linksFrom}
+use Rattle.table_record.specs.Record.{addressAt, currentAt, timeAt, lastTtlAt, linksAt, bestAt, fieldsOf, encodeRecord, linksPart, linksOf, decodeRecord, unusedLinks, recordOk, Held}
+use Rattle.table_record.proofs.Links.{link-wide, links-trip, links-area, links-rest, length-links}
 
 -- a pair whose address is in its range
-pub small-pair : (k : ℕ) → ltb k 17179869184 ≡ isAddress (neighbourOf k)
+pub small-pair : (k : ℕ) → ltb k pairs ≡ isAddress (neighbourOf k)
 unfolding neighbourOf
-small-pair k = go (ltb k 17179869184) refl
+small-pair k = go (ltb k pairs) refl
   where
-    go : (b : Bool) → ltb k 17179869184 ≡ b → b ≡ ltb (k / 4) 4294967296
-    go true e = let h = ltb-true k 17179869184 e in sym (lt-ltb (k / 4) 4294967296 (omega arith))
-    go false e = let h = ltb-false k 17179869184 e in sym (le-ltb (k / 4) 4294967296 (omega arith))
+    go : (b : Bool) → ltb k pairs ≡ b → b ≡ ltb (k / 4) addresses
+    go true e = let h = ltb-true k pairs e in sym (lt-ltb (k / 4) addresses (omega arith))
+    go false e = let h = ltb-false k pairs e in sym (le-ltb (k / 4) addresses (omega arith))
 
 pub length-record : (e : ℕ × TableRecord) → length (encodeRecord e) ≡ recordCells
 unfolding encodeRecord
-length-record e = length-append (fieldsOf e) (pairArea linkMost (e .1 .links)) ∙ ap (λ (k : ℕ). recordHeadCells + k) (length-area pairRow pairCells pair-wide linkMost (e .1 .links))
+length-record e = length-append (fieldsOf e) (linkArea linkMost (e .1 .links)) ∙ ap (λ (k : ℕ). recordHeadCells + k) (length-area linkRow linkCells link-wide linkMost (e .1 .links))
 
 -- a record's key is its originator's address
-pub record-key : (row : List ℕ) → decodeRecord row .0 ≡ getD row 0 0
+pub record-key : (row : List ℕ) → decodeRecord row .0 ≡ getD row addressAt 0
 unfolding decodeRecord
 record-key row = refl
+
+-- ---- the cells of its links
+
+-- links reach to the end of a row
+pub part-rest : (row : List ℕ) → length row ≡ recordCells → linksPart row ≡ drop recordHeadCells row
+part-rest row h = take-all linkAreaCells (drop recordHeadCells row) (rw (length-drop recordHeadCells row) (omega arith))
+
+pub part-size : (row : List ℕ) → length row ≡ recordCells → length (linksPart row) ≡ linkAreaCells
+part-size row h = ap length (part-rest row h) ∙ length-drop recordHeadCells row ∙ (omega arith)
+
+pub part-encoded : (e : ℕ × TableRecord) → linksPart (encodeRecord e) ≡ linkArea linkMost (e .1 .links)
+unfolding encodeRecord
+part-encoded e = take-all linkAreaCells (linkArea linkMost (e .1 .links)) (omega (arith, length-area linkRow linkCells link-wide linkMost (e .1 .links)))
 
 -- ---- from a record to its cells and back
 
 pub record-back : (e : ℕ × TableRecord) → length (e .1 .links) ≤ linkMost → decodeRecord (encodeRecord e) ≡ e
 unfolding decodeRecord encodeRecord
 record-back e h =
-    let ls = pairs-area linkMost (e .1 .links) h in
+    let ls : linksFrom (length (e .1 .links)) (linksPart (encodeRecord e)) ≡ e .1 .links = ap (linksFrom (length (e .1 .links))) (part-encoded e) ∙ links-area linkMost (e .1 .links) h in
     λ i. (e .0, record { current = e .1 .current; time = e .1 .time; lastTtl = e .1 .lastTtl; best = e .1 .best; links = ls i })
 
 links-few : (κ : Config) (now : ℕ) (e : ℕ × TableRecord) → and (recordTests κ now e) ≡ true → length (e .1 .links) ≤ linkMost
@@ -61,7 +75,7 @@ valid-back κ now e h = record-back e (links-few κ now e h)
 
 unused-zero : (e : ℕ × TableRecord) → allZero (unusedLinks (encodeRecord e)) ≡ true
 unfolding encodeRecord
-unused-zero e = ap allZero (sym (drop-drop (length (e .1 .links) * linkCells) recordHeadCells (encodeRecord e))) ∙ pairs-rest linkMost (e .1 .links)
+unused-zero e = ap (λ (l : List ℕ). allZero (drop (length (e .1 .links) * linkCells) l)) (part-encoded e) ∙ links-rest linkMost (e .1 .links)
 
 -- its cells pass
 pub record-passes : (κ : Config) (now : ℕ) (e : ℕ × TableRecord) → and (recordTests κ now e) ≡ true → recordOk κ now (encodeRecord e) ≡ true
@@ -81,20 +95,20 @@ module _ (κ : Config) (now : ℕ) (row : List ℕ) (ok : recordOk κ now row �
 
   few : getD row linksAt 0 ≤ linkMost
   unfolding decodeRecord
-  few = subst (λ (k : ℕ). k ≤ linkMost) (length-pairs (getD row linksAt 0) (drop recordHeadCells row)) (links-few κ now (decodeRecord row) record-valid)
+  few = subst (λ (k : ℕ). k ≤ linkMost) (length-links (getD row linksAt 0) (linksPart row)) (links-few κ now (decodeRecord row) record-valid)
 
   -- best is a held link's pair
-  best-small : getD row bestAt 0 < 17179869184
+  best-small : getD row bestAt 0 < pairs
   unfolding decodeRecord
   best-small =
       let ts = recordTests κ now (decodeRecord row) in
       go (lookup (getD row bestAt 0) (linksOf row)) refl (and-at ts record-valid 8) (and-at ts record-valid 7)
     where
-      go : (o : Option ℕ) → lookup (getD row bestAt 0) (linksOf row) ≡ o → all (λ l. and (linkTests κ (getD row bestAt 0) l)) (linksOf row) ≡ true → maybe o false (λ v. true) ≡ true → getD row bestAt 0 < 17179869184
+      go : (o : Option ℕ) → lookup (getD row bestAt 0) (linksOf row) ≡ o → all (λ l. and (linkTests κ (getD row bestAt 0) l)) (linksOf row) ≡ true → maybe o false (λ v. true) ≡ true → getD row bestAt 0 < pairs
       go none e a h = absurd (false≢true h)
       go (some v) e a h =
           let b = getD row bestAt 0 in
-          ltb-true b 17179869184 (small-pair b ∙ and-at (linkTests κ b (b, v)) (lookup-all (λ l. and (linkTests κ b l)) b v (linksOf row) a e) 0)
+          ltb-true b pairs (small-pair b ∙ and-at (linkTests κ b (b, v)) (lookup-all (λ l. and (linkTests κ b l)) b v (linksOf row) a e) 0)
 
   module _ (size : length row ≡ recordCells) where
     pub record-held : Held row
@@ -103,8 +117,8 @@ module _ (κ : Config) (now : ℕ) (row : List ℕ) (ok : recordOk κ now row �
         let ts = recordTests κ now (decodeRecord row) in
         record {
           size = size;
-          current = ltb-true (getD row currentAt 0) 65536 (and-at ts record-valid 2);
-          ttl = ltb-true (getD row lastTtlAt 0) 256 (and-at ts record-valid 4);
+          current = ltb-true (getD row currentAt 0) numbers (and-at ts record-valid 2);
+          ttl = ltb-true (getD row lastTtlAt 0) octets (and-at ts record-valid 4);
           few = few;
           best = best-small;
           rises = and-at ts record-valid 5;
@@ -114,8 +128,6 @@ module _ (κ : Config) (now : ℕ) (row : List ℕ) (ok : recordOk κ now row �
     unfolding encodeRecord decodeRecord
     record-trip =
         let n = getD row linksAt 0 in
-        let part = drop recordHeadCells row in
-        let len : length part ≡ linkMost * pairCells = length-drop recordHeadCells row ∙ (omega arith) in
-        let z : allZero (drop (n * pairCells) part) ≡ true = ap allZero (drop-drop (n * pairCells) recordHeadCells row) ∙ record-unused in
-        let ls : pairArea linkMost (pairsOf n part) ≡ part = pairs-trip linkMost n part len few z in
-        (λ i. getD row 0 0 ∷ getD row 1 0 ∷ getD row 2 0 ∷ getD row 3 0 ∷ length-pairs n part i ∷ getD row 5 0 ∷ ls i) ∙ sym (cells-from 0 recordHeadCells row (omega arith))
+        let part = linksPart row in
+        let ls : linkArea linkMost (linksFrom n part) ≡ drop recordHeadCells row = links-trip linkMost n part (part-size row size) few record-unused ∙ part-rest row size in
+        (λ i. getD row addressAt 0 ∷ getD row currentAt 0 ∷ getD row timeAt 0 ∷ getD row lastTtlAt 0 ∷ length-links n part i ∷ getD row bestAt 0 ∷ ls i) ∙ sym (cells-from 0 recordHeadCells row (omega arith))

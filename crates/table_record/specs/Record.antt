@@ -1,17 +1,19 @@
--- How one originator's record lies in cells: address, current number, time, last TTL, number of links, best link's pair;
--- then the pair and the word of marks of each link; the rest is zero.
+-- How one originator's record lies in cells: address, current number, time, last TTL, number of links, best link's pair; then the links.
+-- Cells that no link uses are zero.
 use mathlib.Core.Path.{_≡_}
 use mathlib.Core.List.{List, [], _∷_, _++_}
 use mathlib.Core.Bool.{Bool, true, _&&_}
-use Prim.Native.Nat.{ℕ, _+_, _*_, _≤_, _<_}
-use lib.ListN.{length, drop, getD}
+use Prim.Native.Nat.{ℕ, _*_, _≤_, _<_}
+use lib.ListN.{length, take, drop, getD}
 use Rattle.lists.specs.Lists.{and}
 use Rattle.lists.specs.Keyed.{rising}
 use Rattle.cells.specs.Area.{allZero}
-use Rattle.cells.specs.Pairs.{pairArea, pairsOf}
-use Rattle.rules.specs.Settings.{Config, linkMost, linkCells, recordHeadCells, recordCells}
+use Rattle.window.specs.Window.{numbers}
+use Rattle.rules.specs.Settings.{Config, linkMost, linkCells, recordHeadCells, recordCells, octets}
+use Rattle.rules.specs.Calls.{pairs}
 use Rattle.rules.specs.Table.{TableRecord}
 use Rattle.rules.specs.WellFormed.{recordTests}
+use Rattle.table_record.specs.Links.{linkAreaCells, linkArea, linksFrom}
 
 -- ---- the places of the fields
 
@@ -41,13 +43,17 @@ abbrev pub fieldsOf : ℕ × TableRecord → List ℕ
 fieldsOf e = e .0 ∷ e .1 .current ∷ e .1 .time ∷ e .1 .lastTtl ∷ length (e .1 .links) ∷ e .1 .best ∷ []
 
 unfoldable pub encodeRecord : ℕ × TableRecord → List ℕ
-encodeRecord e = fieldsOf e ++ pairArea linkMost (e .1 .links)
+encodeRecord e = fieldsOf e ++ linkArea linkMost (e .1 .links)
 
 -- ---- and back
 
+-- the cells of a record's links
+abbrev pub linksPart : List ℕ → List ℕ
+linksPart row = take linkAreaCells (drop recordHeadCells row)
+
 -- the links that a record's cells hold
 abbrev pub linksOf : List ℕ → List (ℕ × ℕ)
-linksOf row = pairsOf (getD row linksAt 0) (drop recordHeadCells row)
+linksOf row = linksFrom (getD row linksAt 0) (linksPart row)
 
 unfoldable pub decodeRecord : List ℕ → ℕ × TableRecord
 decodeRecord row = (
@@ -61,9 +67,9 @@ decodeRecord row = (
   },
 )
 
--- the cells that no link uses
+-- the cells of links that no link uses
 abbrev pub unusedLinks : List ℕ → List ℕ
-unusedLinks row = drop (recordHeadCells + getD row linksAt 0 * linkCells) row
+unusedLinks row = drop (getD row linksAt 0 * linkCells) (linksPart row)
 
 -- the cells of a record by document 01, "A well-formed table", at the table's time
 unfoldable pub recordOk : Config → (now : ℕ) → List ℕ → Bool
@@ -73,8 +79,8 @@ recordOk κ now row = and (recordTests κ now (decodeRecord row)) && allZero (un
 
 pub record Held (row : List ℕ) : Type 0 where
   pub size : length row ≡ recordCells
-  pub current : getD row currentAt 0 < 65536
-  pub ttl : getD row lastTtlAt 0 < 256
+  pub current : getD row currentAt 0 < numbers
+  pub ttl : getD row lastTtlAt 0 < octets
   pub few : getD row linksAt 0 ≤ linkMost
-  pub best : getD row bestAt 0 < 17179869184
+  pub best : getD row bestAt 0 < pairs
   pub rises : rising (linksOf row) ≡ true

@@ -1,17 +1,24 @@
-// One originator's record in its cells: where its fields stand, and the route that it gives.
+// One originator's record in its cells: where its parts stand, its links, and the route that it gives.
 use cells::Found;
-use cells::PAIR;
 use cells::find;
 use rules::Route;
+use rules::limits::INTERFACES_MOST;
+use rules::limits::LINKS_MOST;
+use window::Marks;
 use window::count;
+use window::no_marks;
 ghost use mathlib.Core.Path.{_≡_};
 ghost use mathlib.Core.Option.{some};
-ghost use Rattle.cells.specs.Pairs.{pairsOf};
+ghost use Prim.Native.Nat.{_+_, _*_, _≤_};
+ghost use lib.ListN.{length};
+ghost use Rattle.cells.specs.Area.{written};
 ghost use Rattle.cells.specs.Find.{Sorted};
-ghost use Rattle.rules.specs.Settings.{Config, linkCells};
+ghost use Rattle.window.specs.Marks.{wordOf};
+ghost use Rattle.rules.specs.Settings.{Config, linkCells, recordCells};
 ghost use Rattle.rules.specs.Rules.{routeOf};
 ghost use Rattle.rules.specs.Table.{table, marksAt};
-ghost use Rattle.table_record.specs.Record.{decodeRecord, Held};
+ghost use Rattle.table_record.specs.Links.{linkRow, linksFrom, linkAt};
+ghost use Rattle.table_record.specs.Record.{linksPart, decodeRecord, Held};
 
 // The places of a record's fields.
 pub const ADDRESS: usize = 0;
@@ -22,40 +29,73 @@ pub const TIME: usize = 2;
 
 pub const LAST_TTL: usize = 3;
 
+// How many links are held.
 pub const LINKS: usize = 4;
 
+// The best link's pair.
 pub const BEST: usize = 5;
 
-// The cells before the links, those of a link, the links that there is room for, and the cells of a record.
-pub const FIELDS: usize = 6;
+// The cells before the links.
+pub const FIELDS: usize = BEST + 1;
 
-pub const LINK: usize = PAIR;
+// The cells of a link: its pair, the key, and its marks.
+pub const LINK: usize = 2;
 
-pub const ROOM: u64 = 8;
+const MARKS: usize = 1;
 
-pub const WIDTH: usize = 22;
+// The cells that there are for links, and where they end.
+pub const LINKS_CELLS: usize = LINKS_MOST as usize * LINK;
 
-// A link is the pair address * 4 + interface.
-pub const INTERFACES: u64 = 4;
+const LINKS_END: usize = FIELDS + LINKS_CELLS;
 
-// How many addresses, sequence numbers, octets and pairs there are.
-pub const ADDRESSES: u64 = 4294967296;
+// The cells of a record.
+pub const WIDTH: usize = LINKS_END;
 
-pub const NUMBERS: u64 = window::NUMBERS;
-
-pub const OCTETS: u64 = 256;
-
-pub const PAIRS: u64 = 17179869184;
-
-// The word of marks of a link, 0 for one that is not held.
-pub fn marks_of(part: &[u64], n: usize, pair: u64) -> u64
-    requires { ⌜ Sorted linkCells n (now part) ⌝ }
-    ensures { λ r. ⌜ r ≡ marksAt (pairsOf n (now (part .entry))) pair ⌝ }
+// The cells of a record's links.
+pub fn links_part(row: &[u64]) -> &[u64]
+    requires { ⌜ length (now row) ≡ recordCells ⌝ }
+    ensures { λ r. ⌜ now r ≡ linksPart (now (row .entry)) ⌝ }
 {
-    let f = find(part, LINK, n, pair);
+    &row[FIELDS..LINKS_END]
+}
+
+// The key of the link at place i.
+pub fn key_at(part: &[u64], i: usize) -> u64
+    requires { ⌜ (i + 1) * linkCells ≤ length (now part) ⌝ }
+    ensures { λ r. ⌜ r ≡ linkAt (now (part .entry)) i .0 ⌝ }
+{
+    part[i * LINK]
+}
+
+// The marks of the link at place i.
+pub fn marks_at(part: &[u64], i: usize) -> Marks
+    requires { ⌜ (i + 1) * linkCells ≤ length (now part) ⌝ }
+    ensures { λ r. ⌜ wordOf r ≡ linkAt (now (part .entry)) i .1 ⌝ }
+{
+    Marks {
+        word: part[i * LINK + MARKS],
+    }
+}
+
+// Writes a link at place i.
+pub fn put_link(out: &mut [u64], i: usize, key: u64, marks: Marks)
+    requires { ⌜ (i + 1) * linkCells ≤ length (now out) ⌝ }
+    ensures { λ _. ⌜ now (out .exit) ≡ written (now (out .entry)) (i * linkCells) (linkRow (key, wordOf marks)) ⌝ }
+{
+    let at = i * LINK;
+    out[at] = key;
+    out[at + MARKS] = marks.word;
+}
+
+// The marks of a link, none for one that is not held.
+pub fn marks_of(part: &[u64], n: usize, key: u64) -> Marks
+    requires { ⌜ Sorted linkCells n (now part) ⌝ }
+    ensures { λ r. ⌜ wordOf r ≡ marksAt (linksFrom n (now (part .entry))) key ⌝ }
+{
+    let f = find(part, LINK, n, key);
     match f {
-        Found::At(i) => part[i * LINK + 1],
-        Found::Place(_) => 0,
+        Found::At(i) => marks_at(part, i),
+        Found::Place(_) => no_marks(),
     }
 }
 
@@ -65,10 +105,10 @@ pub fn route_of(row: &[u64], window: u32) -> Route
     ensures { λ r. ⌜ ((κ : Config) → window ≡ κ .settings .window → r ≡ routeOf table κ (some (decodeRecord (now (row .entry)) .1))) ⌝ }
 {
     let best = row[BEST];
-    let marks = marks_of(&row[FIELDS..], row[LINKS] as usize, best);
+    let marks = marks_of(links_part(row), row[LINKS] as usize, best);
     Route {
-        neighbour: (best / INTERFACES) as u32,
-        interface: (best % INTERFACES) as u32,
+        neighbour: (best / INTERFACES_MOST) as u32,
+        interface: (best % INTERFACES_MOST) as u32,
         count: count(marks),
         window,
     }

@@ -8,7 +8,8 @@ use lib.ListN.{length, getD}
 use Rattle.lists.specs.Lists.{and, all, elem}
 use Rattle.lists.specs.Keyed.{rising, hasKey}
 use Rattle.window.specs.Window.{hasMark}
-use Rattle.rules.specs.Settings.{Config, linkMost, windowMost, within, isOctet, isAddress, isNumber, isOwn}
+use Rattle.rules.specs.Settings.{Config, linkMost, windowMost, addresses, within, isOctet, isAddress, isNumber, isOwn}
+use Rattle.rules.specs.Calls.{pairs}
 use Rattle.rules.specs.WellFormed.{linkTests}
 use Rattle.table_record_check.specs.declared.Limits.{Limits}
 use Rattle.table_record.specs.Record.{addressAt, currentAt, timeAt, lastTtlAt, linksAt, recordOk}
@@ -47,14 +48,14 @@ linksOk κ best ls = rising ls && all (λ l. and (linkTests κ best l)) ls && ha
 -- ---- what the checks answer, of every table that the limits are those of; a key that passes leaves room for the next
 
 pub record LinkChecked (l : Limits) (best low pair marks : ℕ) (r : Bool) : Type 0 where
-  pub small : r ≡ true → pair < 17179869184
+  pub small : r ≡ true → pair < pairs
   pub tests : (κ : Config) (now : ℕ) → Describes κ now l → r ≡ leb low pair && and (linkTests κ best (pair, marks))
 
 pub record FieldsChecked (l : Limits) (low : ℕ) (row : List ℕ) (r : Bool) : Type 0 where
-  pub small : r ≡ true → getD row addressAt 0 < 4294967296
+  pub small : r ≡ true → getD row addressAt 0 < addresses
   pub few : r ≡ true → getD row linksAt 0 ≤ linkMost
   pub tests : (κ : Config) (now : ℕ) → Describes κ now l → r ≡ fieldsOk κ now low row
 
 pub record RecordChecked (l : Limits) (low : ℕ) (row : List ℕ) (r : Bool) : Type 0 where
-  pub small : r ≡ true → getD row addressAt 0 < 4294967296
+  pub small : r ≡ true → getD row addressAt 0 < addresses
   pub tests : (κ : Config) (now : ℕ) → Describes κ now l → r ≡ leb low (getD row addressAt 0) && recordOk κ now row

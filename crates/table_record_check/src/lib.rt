@@ -1,26 +1,31 @@
 // The check of one originator's record, which the check of a table makes of each.
 use cells::all_zero;
+use rules::limits::ADDRESSES;
+use rules::limits::INTERFACES_MOST;
+use rules::limits::LINKS_MOST;
+use rules::limits::OCTETS;
+use rules::limits::PAIRS;
 use table_record::ADDRESS;
-use table_record::ADDRESSES;
 use table_record::BEST;
 use table_record::CURRENT;
-use table_record::FIELDS;
-use table_record::INTERFACES;
 use table_record::LAST_TTL;
 use table_record::LINK;
 use table_record::LINKS;
-use table_record::NUMBERS;
-use table_record::OCTETS;
-use table_record::PAIRS;
-use table_record::ROOM;
 use table_record::TIME;
+use table_record::key_at;
+use table_record::links_part;
+use table_record::marks_at;
+use window::Marks;
+use window::NUMBERS;
 use window::fits;
+use window::has_mark;
 ghost use mathlib.Core.Path.{_≡_};
 ghost use Prim.Native.Nat.{ℕ, _*_, _≤_};
 ghost use lib.ListN.{length};
 ghost use Rattle.lists.specs.Lists.{elem};
-ghost use Rattle.cells.specs.Pairs.{pairsOf};
+ghost use Rattle.window.specs.Marks.{wordOf};
 ghost use Rattle.rules.specs.Settings.{Config, windowMost, linkCells, recordCells};
+ghost use Rattle.table_record.specs.Links.{linksFrom};
 ghost use Rattle.table_record_check.specs.Limits.{Describes, Windowed, ownOf, marksOk, linksOk, FieldsChecked, LinkChecked, RecordChecked};
 
 // What a record is held to: window, interfaces in use, the table's time, and the own addresses, the first again for each that is not in use.
@@ -41,22 +46,22 @@ fn is_own(limits: Limits, a: u64) -> bool
 }
 
 // Whether a link may have these marks: none outside the window, and one at least unless it is best. The first test is nearly always met.
-fn marks_ok(window: u64, best: u64, pair: u64, marks: u64) -> bool
+fn marks_ok(window: u64, best: u64, pair: u64, marks: Marks) -> bool
     requires { ⌜ (1 ≤ window) × (window ≤ windowMost) ⌝ }
-    ensures { λ r. ⌜ r ≡ marksOk window best pair marks ⌝ }
+    ensures { λ r. ⌜ r ≡ marksOk window best pair (wordOf marks) ⌝ }
 {
-    if (0 < marks) & fits(window, marks) {
+    if has_mark(marks) & fits(window, marks) {
         return true;
     }
-    (marks == 0) & (pair == best)
+    !has_mark(marks) & (pair == best)
 }
 
 // Whether a link may be held, where pairs below `low` are passed.
-fn link_ok(limits: Limits, best: u64, low: u64, pair: u64, marks: u64) -> bool
+fn link_ok(limits: Limits, best: u64, low: u64, pair: u64, marks: Marks) -> bool
     requires { ⌜ Windowed limits ⌝ }
-    ensures { λ r. ⌜ LinkChecked limits best low pair marks r ⌝ }
+    ensures { λ r. ⌜ LinkChecked limits best low pair (wordOf marks) r ⌝ }
 {
-    if !((low <= pair) & ((pair < PAIRS) & (pair % INTERFACES < limits.used))) {
+    if !((low <= pair) & ((pair < PAIRS) & (pair % INTERFACES_MOST < limits.used))) {
         return false;
     }
     marks_ok(limits.window, best, pair, marks)
@@ -65,23 +70,21 @@ fn link_ok(limits: Limits, best: u64, low: u64, pair: u64, marks: u64) -> bool
 // Whether the links may be held: each by itself, rising by the pair, best among them.
 fn links_ok(part: &[u64], n: usize, limits: Limits, best: u64) -> bool
     requires { ⌜ (n * linkCells ≤ length (now part)) × Windowed limits ⌝ }
-    ensures { λ r. ⌜ ((κ : Config) (time : ℕ) → Describes κ time limits → r ≡ linksOk κ best (pairsOf n (now (part .entry)))) ⌝ }
+    ensures { λ r. ⌜ ((κ : Config) (time : ℕ) → Describes κ time limits → r ≡ linksOk κ best (linksFrom n (now (part .entry)))) ⌝ }
 {
     let mut low: u64 = 0;
     let mut held = false;
-    let mut at = 0;
-    let mut left = n;
-    while 0 < left {
-        let pair = part[at];
-        if !link_ok(limits, best, low, pair, part[at + 1]) {
+    let mut i = 0;
+    while i < n {
+        let pair = key_at(part, i);
+        if !link_ok(limits, best, low, pair, marks_at(part, i)) {
             break;
         }
         held = held | (best == pair);
         low = pair + 1;
-        at += LINK;
-        left -= 1;
+        i += 1;
     }
-    (left == 0) & held
+    (i == n) & held
 }
 
 // Whether the fields before the links are in their ranges, where addresses below `low` are passed.
@@ -96,7 +99,7 @@ fn fields_ok(row: &[u64], low: u64, limits: Limits) -> bool
             & (!is_own(limits, address)
                 & ((row[CURRENT] < NUMBERS)
                     & ((row[TIME] <= limits.time)
-                        & ((row[LAST_TTL] < OCTETS) & ((1 <= links) & (links <= ROOM)))))))
+                        & ((row[LAST_TTL] < OCTETS) & ((1 <= links) & (links <= LINKS_MOST)))))))
 }
 
 // Whether the cells are those of a record by the rules, where addresses below `low` are passed.
@@ -107,7 +110,8 @@ pub fn record_ok(row: &[u64], low: u64, limits: Limits) -> bool
     if !fields_ok(row, low, limits) {
         return false;
     }
-    let links = row[LINKS] as usize;
-    let end = FIELDS + links * LINK;
-    links_ok(&row[FIELDS..], links, limits, row[BEST]) & all_zero(&row[end..])
+    let part = links_part(row);
+    let n = row[LINKS] as usize;
+    let end = n * LINK;
+    links_ok(part, n, limits, row[BEST]) & all_zero(&part[end..])
 }

@@ -1,3 +1,4 @@
 -- Document 01, "Sequence numbers".
 pub mod Window
 pub mod Laws
+pub mod Marks

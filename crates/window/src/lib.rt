@@ -1,14 +1,20 @@
-// Sequence numbers modulo 65,536 and a link's window of marks in one word: bit k is the mark of the number k below current.
+// Sequence numbers modulo 65,536 and a link's window of marks.
 ghost use mathlib.Core.Path.{_≡_};
 ghost use Prim.Native.Nat.{_≤_, _<_, _^_};
 ghost use lib.Dec.{ltb};
 ghost use Rattle.window.specs.Window as W;
+ghost use Rattle.window.specs.Marks.{wordBits, wordOf};
 
 // How many bits a word of marks has, so the largest window.
-const WORD: u64 = 64;
+const WORD_BITS: u64 = 64;
 
 // How many sequence numbers there are.
 pub const NUMBERS: u64 = 65536;
+
+// A link's marks: bit k of the word is the mark of the number k below current.
+pub struct Marks {
+    pub word: u64,
+}
 
 // How far n lies below current, modulo 65,536.
 pub fn distance(current: u16, n: u16) -> u64
@@ -31,45 +37,63 @@ pub fn advance(w: u64, current: u16, n: u16) -> u16
     if inside(w, current, n) { current } else { n }
 }
 
+// The marks of a link by which nothing was counted.
+pub fn no_marks() -> Marks
+    ensures { λ r. ⌜ wordOf r ≡ 0 ⌝ }
+{
+    Marks { word: 0 }
+}
+
 // Whether the number k below current is marked.
-pub fn is_marked(word: u64, k: u64) -> bool
-    requires { ⌜ k < 64 ⌝ }
-    ensures { λ r. ⌜ r ≡ W.bit word k ⌝ }
+pub fn is_marked(m: Marks, k: u64) -> bool
+    requires { ⌜ k < wordBits ⌝ }
+    ensures { λ r. ⌜ r ≡ W.bit (wordOf m) k ⌝ }
 {
-    (word >> k) % 2 == 1
+    (m.word >> k) % 2 == 1
 }
 
-// The word with the number k below current marked.
-pub fn mark(word: u64, k: u64) -> u64
-    requires { ⌜ k < 64 ⌝ }
-    ensures { λ r. ⌜ r ≡ W.mark word k ⌝ }
+// The marks with that of the number k below current set.
+pub fn mark(m: Marks, k: u64) -> Marks
+    requires { ⌜ k < wordBits ⌝ }
+    ensures { λ r. ⌜ wordOf r ≡ W.mark (wordOf m) k ⌝ }
 {
-    word | 1 << k
+    Marks {
+        word: m.word | 1 << k,
+    }
 }
 
-// The word after current has moved up by d. Shifting left and then back cuts it to w bits with no mask, also where w is 64.
-pub fn shift(w: u64, d: u64, word: u64) -> u64
-    requires { ⌜ (1 ≤ w) × (w ≤ 64) ⌝ }
-    ensures { λ r. ⌜ r ≡ W.shift w d word ⌝ }
+// The marks after current has moved up by d. Shifting left and then back cuts the word to w bits with no mask, also where w is all of them.
+pub fn shift(w: u64, d: u64, m: Marks) -> Marks
+    requires { ⌜ (1 ≤ w) × (w ≤ wordBits) ⌝ }
+    ensures { λ r. ⌜ wordOf r ≡ W.shift w d (wordOf m) ⌝ }
 {
     if w <= d {
-        return 0;
+        return Marks { word: 0 };
     }
-    let spare = WORD - w;
-    (word << (d + spare)) >> spare
+    let spare = WORD_BITS - w;
+    Marks {
+        word: (m.word << (d + spare)) >> spare,
+    }
 }
 
 // Whether no mark lies outside the window.
-pub fn fits(w: u64, word: u64) -> bool
-    requires { ⌜ (1 ≤ w) × (w ≤ 64) ⌝ }
-    ensures { λ r. ⌜ r ≡ ltb word (2 ^ w) ⌝ }
+pub fn fits(w: u64, m: Marks) -> bool
+    requires { ⌜ (1 ≤ w) × (w ≤ wordBits) ⌝ }
+    ensures { λ r. ⌜ r ≡ ltb (wordOf m) (2 ^ w) ⌝ }
 {
-    word <= u64::MAX >> (WORD - w)
+    m.word <= u64::MAX >> (WORD_BITS - w)
 }
 
 // A link's count: the number of set marks.
-pub fn count(word: u64) -> u32
-    ensures { λ r. ⌜ r ≡ W.count word ⌝ }
+pub fn count(m: Marks) -> u32
+    ensures { λ r. ⌜ r ≡ W.count (wordOf m) ⌝ }
 {
-    u64::count_ones(word)
+    u64::count_ones(m.word)
+}
+
+// Whether any mark is set.
+pub fn has_mark(m: Marks) -> bool
+    ensures { λ r. ⌜ r ≡ W.hasMark (wordOf m) ⌝ }
+{
+    0 < m.word
 }

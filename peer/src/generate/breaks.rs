@@ -2,10 +2,12 @@
 //! the table well-formed may be among them; the generator looks and takes it back.
 
 use super::random::Random;
+use crate::book::{INTERFACES_MOST, LINKS_MOST, NEIGHBOURS_MOST};
 use crate::cells::{
-    INTERFACES, INTERFACE_CELLS, NEIGHBOURS, NEIGHBOURS_HELD, NEIGHBOUR_CELLS, ORIGINATORS_HELD,
-    RECORDS, RECORD_CELLS, RECORD_LINKS, TIME,
+    head, interface, interface_at, link, link_at, neighbour, neighbour_at, record, record_at,
+    RECORDS,
 };
+use crate::script::BUFFER_CELLS;
 
 pub type Pokes = Vec<(usize, u64)>;
 
@@ -18,7 +20,7 @@ pub fn pokes(cells: &[u64], random: &mut Random) -> Pokes {
         0..3 => settings(cells, random, huge),
         3..7 => interfaces(cells, random, huge),
         7..11 => neighbours(cells, random, huge),
-        11..17 => record(cells, random, huge),
+        11..17 => records(cells, random, huge),
         17 => vec![(random.below(cells.len() as u64) as usize, huge)],
         18 => any_near(cells, random),
         _ => beyond(cells, random),
@@ -38,41 +40,48 @@ fn any_near(cells: &[u64], random: &mut Random) -> Pokes {
 /// A cell that isn't lent, or one that is written as it is: the table stays what it was.
 fn beyond(cells: &[u64], random: &mut Random) -> Pokes {
     let same = random.below(cells.len() as u64) as usize;
-    vec![random.pick(&[(cells.len(), 1), (66_559, u64::MAX), (same, cells[same])])]
+    vec![random.pick(&[
+        (cells.len(), 1),
+        (BUFFER_CELLS - 1, u64::MAX),
+        (same, cells[same]),
+    ])]
 }
 
 fn settings(cells: &[u64], random: &mut Random, huge: u64) -> Pokes {
+    use head::{
+        CAPACITY, NEIGHBOURS_HELD, ORIGINATORS_HELD, PURGE, TIME, TIMEOUT, USED, VERSION, WINDOW,
+    };
     let newest = newest_record(cells);
     let (index, value) = random.pick(&[
-        (0, 256),
-        (1, 0),
-        (1, 65),
-        (2, 0),
-        (2, 1001),
-        (2, 1),
-        (3, 0),
-        (3, 1 << 32),
-        (4, 0),
-        (4, 257),
-        (4, cells[4] + 1),
-        (4, cells[4] - 1),
-        (5, 0),
-        (5, 5),
-        (5, cells[5] - 1),
-        (5, cells[5] + 1),
+        (VERSION, 256),
+        (WINDOW, 0),
+        (WINDOW, 65),
+        (TIMEOUT, 0),
+        (TIMEOUT, 1001),
+        (TIMEOUT, 1),
+        (PURGE, 0),
+        (PURGE, 1 << 32),
+        (CAPACITY, 0),
+        (CAPACITY, 257),
+        (CAPACITY, cells[CAPACITY] + 1),
+        (CAPACITY, cells[CAPACITY] - 1),
+        (USED, 0),
+        (USED, 5),
+        (USED, cells[USED] - 1),
+        (USED, cells[USED] + 1),
         (TIME, newest.saturating_sub(1)),
         (TIME, 0),
         (NEIGHBOURS_HELD, cells[NEIGHBOURS_HELD] + 1),
         (NEIGHBOURS_HELD, cells[NEIGHBOURS_HELD].saturating_sub(1)),
-        (NEIGHBOURS_HELD, 33),
+        (NEIGHBOURS_HELD, NEIGHBOURS_MOST as u64 + 1),
         (ORIGINATORS_HELD, cells[ORIGINATORS_HELD] + 1),
         (ORIGINATORS_HELD, cells[ORIGINATORS_HELD].saturating_sub(1)),
-        (ORIGINATORS_HELD, cells[4] + 1),
-        (0, huge),
-        (1, huge),
-        (2, huge),
-        (4, huge),
-        (5, huge),
+        (ORIGINATORS_HELD, cells[CAPACITY] + 1),
+        (VERSION, huge),
+        (WINDOW, huge),
+        (TIMEOUT, huge),
+        (CAPACITY, huge),
+        (USED, huge),
         (NEIGHBOURS_HELD, huge),
         (ORIGINATORS_HELD, huge),
     ]);
@@ -80,171 +89,176 @@ fn settings(cells: &[u64], random: &mut Random, huge: u64) -> Pokes {
 }
 
 fn newest_record(cells: &[u64]) -> u64 {
-    let held = cells[ORIGINATORS_HELD] as usize;
+    let held = cells[head::ORIGINATORS_HELD] as usize;
     cells[RECORDS..]
-        .chunks(RECORD_CELLS)
+        .chunks(record::CELLS)
         .take(held)
-        .map(|record| record[2])
+        .map(|record| record[record::TIME])
         .max()
         .unwrap_or(0)
 }
 
 fn interfaces(cells: &[u64], random: &mut Random, huge: u64) -> Pokes {
-    let used = cells[5] as usize;
-    let place = random.below(4) as usize;
-    let at = INTERFACES + INTERFACE_CELLS * place;
+    use interface::{BROADCAST, FIRST, LAST, OWN, SENT};
+    let used = cells[head::USED] as usize;
+    let place = random.below(INTERFACES_MOST as u64) as usize;
+    let at = interface_at(place);
     if place >= used {
         // An unused row must be zeros.
-        let field = random.below(INTERFACE_CELLS as u64) as usize;
+        let field = random.below(interface::CELLS as u64) as usize;
         return vec![(at + field, random.pick(&[1, 1, huge]))];
     }
-    let other = INTERFACES + INTERFACE_CELLS * random.below(used as u64) as usize;
-    let originator = cells[RECORDS];
+    let other = interface_at(random.below(used as u64) as usize);
+    let originator = cells[RECORDS + record::ORIGINATOR];
+    let last = cells[at + LAST];
     let (field, value) = random.pick(&[
-        (0, 1 << 32),
-        (0, cells[other]),
-        (0, originator),
-        (1, 1 << 32),
-        (2, 65_536),
-        (3, 2),
-        (3, 1 - cells[at + 3]),
-        (4, 65_536),
-        (4, cells[at + 4].wrapping_sub(1) % 65_536),
-        (4, (cells[at + 4] + cells[2]) % 65_536),
-        (0, huge),
-        (1, huge),
-        (2, huge),
-        (3, huge),
-        (4, huge),
+        (OWN, 1 << 32),
+        (OWN, cells[other + OWN]),
+        (OWN, originator),
+        (BROADCAST, 1 << 32),
+        (FIRST, 65_536),
+        (SENT, 2),
+        (SENT, 1 - cells[at + SENT]),
+        (LAST, 65_536),
+        (LAST, last.wrapping_sub(1) % 65_536),
+        (LAST, (last + cells[head::TIMEOUT]) % 65_536),
+        (OWN, huge),
+        (BROADCAST, huge),
+        (FIRST, huge),
+        (SENT, huge),
+        (LAST, huge),
     ]);
     vec![(at + field, value)]
+}
+
+/// Two rows of this width with their keys in the wrong order, or with the same key.
+fn out_of_order(cells: &[u64], random: &mut Random, at: usize, width: usize) -> Pokes {
+    let before = at - width;
+    match random.below(2) {
+        0 => vec![(at, cells[before]), (before, cells[at])],
+        _ => vec![(at, cells[before])],
+    }
 }
 
 fn neighbours(cells: &[u64], random: &mut Random, huge: u64) -> Pokes {
-    let held = cells[NEIGHBOURS_HELD];
-    if held < 32 && random.chance(250) {
-        let unused = held + random.below(32 - held);
-        let at = NEIGHBOURS + NEIGHBOUR_CELLS * unused as usize;
-        return vec![(at + random.below(2) as usize, random.pick(&[1, huge]))];
+    use neighbour::{KEY, NUMBER};
+    let held = cells[head::NEIGHBOURS_HELD];
+    let most = NEIGHBOURS_MOST as u64;
+    if held < most && random.chance(250) {
+        let unused = held + random.below(most - held);
+        let at = neighbour_at(unused as usize);
+        let field = random.below(neighbour::CELLS as u64) as usize;
+        return vec![(at + field, random.pick(&[1, huge]))];
     }
     if held == 0 {
-        return vec![(NEIGHBOURS_HELD, 1)];
+        return vec![(head::NEIGHBOURS_HELD, 1)];
     }
     let place = random.below(held) as usize;
-    let at = NEIGHBOURS + NEIGHBOUR_CELLS * place;
-    let key = cells[at];
-    let last = cells[INTERFACES + INTERFACE_CELLS * (key % 4) as usize + 4];
+    let at = neighbour_at(place);
+    let key = cells[at + KEY];
+    let last = cells[interface_at((key % 4) as usize) + interface::LAST];
     if place > 0 && random.chance(250) {
-        // Two rows in the wrong order, or the same one twice.
-        let before = at - NEIGHBOUR_CELLS;
-        return match random.below(2) {
-            0 => vec![(at, cells[before]), (before, key)],
-            _ => vec![(at, cells[before])],
-        };
+        return out_of_order(cells, random, at + KEY, neighbour::CELLS);
     }
     let (field, value) = random.pick(&[
-        (0, key / 4 * 4 + 3),
-        (0, key / 4 * 4 + cells[5]),
-        (0, key + (1 << 34)),
-        (0, 1 << 34),
-        (1, 65_536),
-        (1, (last + 65_536 - cells[2]) % 65_536),
-        (1, (last + 1) % 65_536),
-        (1, cells[at + 1] + 65_536),
-        (0, huge),
-        (1, huge),
+        (KEY, key / 4 * 4 + 3),
+        (KEY, key / 4 * 4 + cells[head::USED]),
+        (KEY, key + (1 << 34)),
+        (KEY, 1 << 34),
+        (NUMBER, 65_536),
+        (NUMBER, (last + 65_536 - cells[head::TIMEOUT]) % 65_536),
+        (NUMBER, (last + 1) % 65_536),
+        (NUMBER, cells[at + NUMBER] + 65_536),
+        (KEY, huge),
+        (NUMBER, huge),
     ]);
     vec![(at + field, value)]
 }
 
-fn record(cells: &[u64], random: &mut Random, huge: u64) -> Pokes {
-    let held = cells[ORIGINATORS_HELD];
-    if held < cells[4] && random.chance(200) {
+fn records(cells: &[u64], random: &mut Random, huge: u64) -> Pokes {
+    use record::{BEST, CURRENT, LINKS_HELD, ORIGINATOR, TIME, TTL};
+    let held = cells[head::ORIGINATORS_HELD];
+    let capacity = cells[head::CAPACITY];
+    if held < capacity && random.chance(200) {
         // An unused record must be zeros.
-        let unused = held + random.below(cells[4] - held);
-        let at = RECORDS + RECORD_CELLS * unused as usize;
-        let field = random.below(RECORD_CELLS as u64) as usize;
+        let unused = held + random.below(capacity - held);
+        let at = record_at(unused as usize);
+        let field = random.below(record::CELLS as u64) as usize;
         return vec![(at + field, random.pick(&[1, huge]))];
     }
     if held == 0 {
-        return vec![(ORIGINATORS_HELD, 1)];
+        return vec![(head::ORIGINATORS_HELD, 1)];
     }
     let place = random.below(held) as usize;
-    let at = RECORDS + RECORD_CELLS * place;
+    let at = record_at(place);
     if place > 0 && random.chance(100) {
-        // Two records in the wrong order, or two of the same originator.
-        let before = at - RECORD_CELLS;
-        return match random.below(2) {
-            0 => vec![(at, cells[before]), (before, cells[at])],
-            _ => vec![(at, cells[before])],
-        };
+        return out_of_order(cells, random, at + ORIGINATOR, record::CELLS);
     }
     if random.chance(500) {
-        return link(cells, random, huge, at);
+        return links(cells, random, huge, at);
     }
-    let own = cells[INTERFACES + INTERFACE_CELLS * random.below(cells[5]) as usize];
-    let links = cells[at + 4];
+    let own = cells[interface_at(random.below(cells[head::USED]) as usize) + interface::OWN];
+    let links = cells[at + LINKS_HELD];
+    let best = cells[at + BEST];
+    let time = cells[head::TIME];
     let (field, value) = random.pick(&[
-        (0, 1 << 32),
-        (0, own),
-        (1, 65_536),
-        (2, cells[TIME].wrapping_add(1)),
-        (2, cells[TIME].saturating_add(1)),
-        (3, 256),
-        (4, 0),
-        (4, 9),
-        (4, links + 1),
-        (4, links - 1),
-        (5, cells[at + 5] ^ 1),
-        (5, cells[at + 5] + 4),
-        (5, 0),
-        (0, huge),
-        (1, huge),
-        (2, huge),
-        (3, huge),
-        (4, huge),
-        (5, huge),
+        (ORIGINATOR, 1 << 32),
+        (ORIGINATOR, own),
+        (CURRENT, 65_536),
+        (TIME, time.wrapping_add(1)),
+        (TIME, time.saturating_add(1)),
+        (TTL, 256),
+        (LINKS_HELD, 0),
+        (LINKS_HELD, LINKS_MOST as u64 + 1),
+        (LINKS_HELD, links + 1),
+        (LINKS_HELD, links - 1),
+        (BEST, best ^ 1),
+        (BEST, best + 4),
+        (BEST, 0),
+        (ORIGINATOR, huge),
+        (CURRENT, huge),
+        (TIME, huge),
+        (TTL, huge),
+        (LINKS_HELD, huge),
+        (BEST, huge),
     ]);
     vec![(at + field, value)]
 }
 
 /// One link of the record at this cell.
-fn link(cells: &[u64], random: &mut Random, huge: u64, at: usize) -> Pokes {
-    let links = cells[at + 4];
-    let window = cells[1];
-    if links < 8 && random.chance(200) {
-        let unused = at + RECORD_LINKS + 2 * links as usize;
-        let fields = (8 - links) * 2;
+fn links(cells: &[u64], random: &mut Random, huge: u64, record: usize) -> Pokes {
+    let held = cells[record + record::LINKS_HELD] as usize;
+    let window = cells[head::WINDOW];
+    if held < LINKS_MOST && random.chance(200) {
+        let unused = record + link_at(held);
+        let fields = (LINKS_MOST - held) * link::CELLS;
         return vec![(
-            unused + random.below(fields) as usize,
+            unused + random.below(fields as u64) as usize,
             random.pick(&[1, huge]),
         )];
     }
-    let place = random.below(links) as usize;
-    let link = at + RECORD_LINKS + 2 * place;
+    let place = random.below(held as u64) as usize;
+    let at = record + link_at(place);
+    let (key_at, marks_at, best_at) = (at + link::KEY, at + link::MARKS, record + record::BEST);
     if place > 0 && random.chance(250) {
-        let before = link - 2;
-        return match random.below(2) {
-            0 => vec![(link, cells[before]), (before, cells[link])],
-            _ => vec![(link, cells[before])],
-        };
+        return out_of_order(cells, random, key_at, link::CELLS);
     }
     let beyond = if window < 64 { 1 << window } else { 0 };
-    let key = cells[link];
-    let marks = cells[link + 1];
+    let key = cells[key_at];
+    let used = cells[head::USED];
     match random.below(9) {
-        0 => vec![(link + 1, 0)],
-        1 => vec![(link + 1, marks | beyond)],
-        2 => vec![(link + 1, beyond)],
-        3 => vec![(link, key / 4 * 4 + cells[5])],
-        4 => vec![(link, key / 4 * 4 + 3)],
-        5 => vec![(link, key + (1 << 34))],
-        6 => vec![(link, huge)],
-        7 => vec![(link, key + (1 << 34)), (at + 5, key + (1 << 34))],
+        0 => vec![(marks_at, 0)],
+        1 => vec![(marks_at, cells[marks_at] | beyond)],
+        2 => vec![(marks_at, beyond)],
+        3 => vec![(key_at, key / 4 * 4 + used)],
+        4 => vec![(key_at, key / 4 * 4 + 3)],
+        5 => vec![(key_at, key + (1 << 34))],
+        6 => vec![(key_at, huge)],
+        7 => vec![(key_at, key + (1 << 34)), (best_at, key + (1 << 34))],
         _ => {
             // The key and best both on an interface that may not be in use.
-            let other = key / 4 * 4 + cells[5] % 4;
-            vec![(link, other), (at + 5, other)]
+            let other = key / 4 * 4 + used % 4;
+            vec![(key_at, other), (best_at, other)]
         }
     }
 }

@@ -2,9 +2,13 @@
 
 use super::stage::Kind;
 use super::{breaks, odd, Generator};
-use crate::book::{cells_needed, Settings, LINKS_MOST};
+use crate::book::{Settings, LINKS_MOST};
+use crate::cells::{capacity_of, cells_needed, record, RECORDS};
 use crate::play::{self, Lent};
 use crate::script::BUFFER_CELLS;
+
+/// The largest capacity of a table whose dump is short.
+const SMALL: u64 = 8;
 
 impl Generator<'_> {
     pub(super) fn make(&mut self, settings: &Settings) {
@@ -21,6 +25,20 @@ impl Generator<'_> {
             line += &format!(" {} {} {}", row.own, row.broadcast, row.first);
         }
         self.say(line);
+    }
+
+    /// A make in cells that hold anything, some of those behind them written too; then, of a
+    /// small table, all cells as they are left.
+    pub(super) fn make_over_anything(&mut self, settings: &Settings) {
+        for _ in 0..self.found.below(9) {
+            let index = self.found.below(cells_needed(settings.capacity) + 4);
+            let value = self.found.next();
+            self.say(format!("poke {index} {value}"));
+        }
+        self.make(settings);
+        if settings.capacity <= SMALL {
+            self.say("dump".to_string());
+        }
     }
 
     /// A sweep, often exactly at the purge timeout of a record or one more.
@@ -127,7 +145,7 @@ impl Generator<'_> {
 
     pub(super) fn dump(&mut self) {
         // A large table's dump is long: seldom.
-        if self.settings().capacity <= 8 || self.random.chance(60) {
+        if self.settings().capacity <= SMALL || self.random.chance(60) {
             self.say("dump".to_string());
         }
     }
@@ -194,25 +212,26 @@ impl Generator<'_> {
     /// Lends another number of cells for some calls.
     pub(super) fn wrong_number_of_cells(&mut self) {
         let needed = cells_needed(self.settings().capacity);
+        let (before_records, a_record) = (RECORDS as u64, record::CELLS as u64);
         let any = self.random.below(BUFFER_CELLS as u64 + 1);
         let lent = self.random.pick(&[
             needed - 1,
             needed + 1,
-            needed - 22,
-            needed + 22,
+            needed - a_record,
+            needed + a_record,
             0,
             1,
-            92,
-            93,
+            before_records - 1,
+            before_records,
             any,
             BUFFER_CELLS as u64,
         ]);
         self.say(format!("cells {lent}"));
         if self.player.state() == Lent::Broken {
             self.calls_meanwhile();
-            if self.random.chance(100) && lent > 93 {
+            if self.random.chance(100) && lent > before_records {
                 let mut settings = self.settings();
-                settings.capacity = (lent - 93) / 22;
+                settings.capacity = capacity_of(lent);
                 self.make(&settings);
             }
         }

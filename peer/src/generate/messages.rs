@@ -2,19 +2,10 @@
 
 use super::stage::Kind;
 use super::Generator;
-use crate::book::INTERFACES_MOST;
+use crate::book::{Receive, INTERFACES_MOST};
 use crate::packet::{self, Header, DIRECT, HEADER_OCTETS, PACKET_MOST, UNIDIRECTIONAL};
 use crate::play;
 use crate::words::{self, Link};
-
-/// The arguments of one receive line.
-struct Arrival {
-    interface: u64,
-    sender: u32,
-    time: u64,
-    output: u64,
-    packet: Vec<u8>,
-}
 
 impl Generator<'_> {
     /// A time that is not before the table's, mostly close.
@@ -240,7 +231,7 @@ impl Generator<'_> {
     }
 
     /// Writes a receive line; each fault comes in at times, so that two meet now and then.
-    fn receive(&mut self, mut arrival: Arrival) {
+    fn receive(&mut self, mut arrival: Receive) {
         self.spoil_packet(&mut arrival.packet);
         arrival.interface = self.spoil_interface(arrival.interface);
         arrival.time = self.spoil_time(arrival.time);
@@ -254,7 +245,7 @@ impl Generator<'_> {
     }
 
     fn receive_packet(&mut self, link: Link, packet: Vec<u8>) {
-        let arrival = Arrival {
+        let arrival = Receive {
             interface: u64::from(link.interface),
             sender: link.neighbour,
             time: self.now(),

@@ -1,4 +1,4 @@
--- `batman::batman_list` meets its contract: a walk of its MIR, by hand. `links_of` is called with a copy of the cells' borrow, and `fill_rows` with the rows' borrow, which is given up for good.
+-- `batman_list` fills the rows that are found: a walk of its MIR, by hand. `links_of` is called with a copy of the cells' borrow, and `fill_rows` with the rows' borrow, which is given up for good.
 -- T, L and K are what is generated of the structs LinkRow, Links and Listed. Assumes nothing.
 use mathlib.Core.Path.{_≡_, refl, ap, subst}
 use Prim.Native.Nat.{ℕ, _≤_, _<_, _^_}
@@ -44,7 +44,7 @@ use Rattle.rules.specs.Settings.{linkMost}
 use Rattle.rules.specs.declared.LinkRow.{LinkRow}
 use Rattle.call_list.specs.declared.Links.{Links}
 use Rattle.call_list.specs.Listing.{answerOf, Settles}
-use Rattle.call_list.proofs.Answers.{performed}
+use Rattle.call_list.proofs.Answers.{promised}
 use Rattle.rules.proofs.LinkRow as T
 use Rattle.rules.proofs.Listed as K
 use Rattle.rules.proofs.Listed.Laws as K′
@@ -52,11 +52,11 @@ use Rattle.call_list.proofs.Links as L
 use Rattle.call_list.proofs.Links.Laws as L′
 use Rattle.call_list.proofs.links_of as links-of
 use Rattle.call_list.proofs.links_of.Symbol as links-def
-use Rattle.call_list.proofs.links_of.Symbol.{name as #listing·links-of}
+use Rattle.call_list.proofs.links_of.Symbol.{name as #call-list·links-of}
 use Rattle.call_list.proofs.links_of.Met as links-thm
 use Rattle.call_list.proofs.fill_rows as fill
 use Rattle.call_list.proofs.fill_rows.Symbol as fill-def
-use Rattle.call_list.proofs.fill_rows.Symbol.{name as #listing·fill-rows}
+use Rattle.call_list.proofs.fill_rows.Symbol.{name as #call-list·fill-rows}
 use Rattle.call_list.proofs.fill_rows.Met as fill-thm
 use Rattle.batman.proofs.batman_list.Key.{name as #batman·batman-list}
 use Rattle.batman.proofs.batman_list as f
@@ -145,13 +145,13 @@ module _ {M : Type 1} (𝓤 : URA M) (H : Heap 𝓤) (A : Atoms 𝓤) (W : Given
   exits r zs e e₂ l gw is =
       qed W ((‵ (flft κ₁ q₁) ⊛ ‵ ftrue) ∷ (‵ (flft κ₂ q₂) ⊛ ‵ ftrue) ∷ ‵ (finally T.the-row γ zs) ∷ ‵ Own ∷ []) ∵
       suffices ! _ (ends-at 𝓤 H A f.ended stayed (f.clauses 𝓤 H A at-mem run) W (((κ₁, (κ₂, tt)), (q₁, (q₂, tt)), tt, a, at), tt) (told r) (answerOf r) (tt, (tt, (zs, tt))) (tt, (tt, (l, tt)))) $
-      says ! (performed (s .now) originator r ys zs e e₂) $
+      says ! (promised (s .now) originator r ys zs e e₂) $
       split ! $ move ! (0 ∷ 2 ∷ []) $ join ! $ frame ! $
       -- [true; the last list; what the cells' borrow owns]
       move ! (1 ∷ 0 ∷ []) $ fjoin ! $ owned ! u32 (Is u32) (uint-makes 𝓤 H A W w32) originator _ (refl, gw) $ fjoin ! $ move ! (1 ∷ 0 ∷ []) $ fjoin ! $ frame ! $
       owned ! K.the-row (Is K.the-row) (LL.makes K.the-type K′.the-plain 𝓤 H A) (answerOf r) _ is $ done !
 
-  module _ (C : Calls 𝓤 H) (Λ : Loops 𝓤 H) (fm : FmC 𝓤 H (W .laws) C) (known-links : Triple 𝓤 (C #listing·links-of) (LinksOf 𝓤 H A at-mem run)) (known-fill : Triple 𝓤 (C #listing·fill-rows) (Fill 𝓤 H A at-mem run)) where
+  module _ (C : Calls 𝓤 H) (Λ : Loops 𝓤 H) (fm : FmC 𝓤 H (W .laws) C) (known-links : Triple 𝓤 (C #call-list·links-of) (LinksOf 𝓤 H A at-mem run)) (known-fill : Triple 𝓤 (C #call-list·fill-rows) (Fill 𝓤 H A at-mem run)) where
     walk : Is (ShrSlice (named 0) κ₁ u64) s (v ∷ []) → originator < 2 ^ 32 → Room T.the-row m → ent 𝓤 (onEntry 𝓤 H A f.signature (κ₁, (κ₂, tt)) (q₁, (q₂, tt)) a at) (WpFn 𝓤 H C Λ code.function (v ∷ vint w32 originator ∷ u ∷ []) Post)
     walk p gw room =
         qed W ((‵ (flft κ₁ q₁) ⊛ (‵ (flft κ₂ q₂) ⊛ ‵ ftrue)) ∷ ‵ (owns (ShrSlice (named 0) κ₁ u64 ∷ u32 ∷ MutSlice (named 1) κ₂ T.the-row ∷ []) a at) ∷ []) ∵ enter ! C Λ code.function (v ∷ vint w32 originator ∷ u ∷ []) _ $
@@ -193,7 +193,7 @@ module _ {M : Type 1} (𝓤 : URA M) (H : Heap 𝓤) (A : Atoms 𝓤) (W : Given
         keep ! (7 ∷ 1 ∷ 2 ∷ 8 ∷ []) $ by ! (exits r (zs .0) e e₂ l gw (LL.owes K.the-type K′.the-laws (answerOf r) ((refl, ga), ((refl, gn), tt))))))))))))))))))))))))
 
 module _ {M : Type 1} (𝓤 : URA M) (H : Heap 𝓤) (A : Atoms 𝓤) (W : Given 𝓤 H A) (at-mem : Memory → SProp 𝓤) (run : Routine → Fun 𝓤) where
-  list-walks : (C : Calls 𝓤 H) (Λ : Loops 𝓤 H) → FmC 𝓤 H (W .laws) C → Triple 𝓤 (C #listing·links-of) (LinksOf 𝓤 H A at-mem run) → Triple 𝓤 (C #listing·fill-rows) (Fill 𝓤 H A at-mem run)
+  list-walks : (C : Calls 𝓤 H) (Λ : Loops 𝓤 H) → FmC 𝓤 H (W .laws) C → Triple 𝓤 (C #call-list·links-of) (LinksOf 𝓤 H A at-mem run) → Triple 𝓤 (C #call-list·fill-rows) (Fill 𝓤 H A at-mem run)
       → Walks 𝓤 H A f.ended stayed (WpFn 𝓤 H C Λ code.function) (f.clauses 𝓤 H A at-mem run)
   list-walks C Λ fm known-links known-fill = walked 𝓤 H A f.ended stayed (f.clauses 𝓤 H A at-mem run) (WpFn 𝓤 H C Λ code.function)
       (λ κs. (slice-vals, (uint-vals w32, (slice-vals, tt)))) (λ κs. (shr-slice-tells (named 0) (κs .0) u64, (uint-tells w32, (mut-slice-tells (named 1) (κs .1 .0) T.the-row, tt))))
@@ -201,7 +201,7 @@ module _ {M : Type 1} (𝓤 : URA M) (H : Heap 𝓤) (A : Atoms 𝓤) (W : Given
       (walk 𝓤 H A W at-mem run (κs .0) (κs .1 .0) (qs .0) (qs .1 .0) (a .0) (a .1 .0) (a .1 .1 .0 .ptr .0) (a .1 .1 .0 .ptr .1) (a .1 .1 .0 .name) (a .1 .1 .0 .now) C Λ fm known-links known-fill (are .0) (are .1 .0 .1) (are .1 .1 .0 .0 .1)))
 
 list-meets : {M : Type 1} (𝓤 : URA M) (H : Heap 𝓤) (A : Atoms 𝓤) → Given 𝓤 H A → (at-mem : Memory → SProp 𝓤) (run : Routine → Fun 𝓤) (𝓣 : Tables 𝓤 H)
-    → Triple 𝓤 (𝓣 .C #listing·links-of) (LinksOf 𝓤 H A at-mem run) → Triple 𝓤 (𝓣 .C #listing·fill-rows) (Fill 𝓤 H A at-mem run)
+    → Triple 𝓤 (𝓣 .C #call-list·links-of) (LinksOf 𝓤 H A at-mem run) → Triple 𝓤 (𝓣 .C #call-list·fill-rows) (Fill 𝓤 H A at-mem run)
     → Meets 𝓤 H A f.signature (WpFn 𝓤 H (𝓣 .C) (𝓣 .Λ) code.function) (f.spec 𝓤 H A at-mem run)
 list-meets 𝓤 H A W at-mem run 𝓣 known-links known-fill =
     walk-meets 𝓤 H A f.ended stayed W (goes-none-slice 𝓤 H A W 2 (0 ∷ []) tt (plain (λ _. u64)) yes, (goes-none 𝓤 H A W 2 (λ _. u32) yes (λ κs x f. refl), (goes-gave-slice 𝓤 H A W 2 1 tt (plain (λ _. T.the-row)), tt)))
@@ -213,5 +213,5 @@ batman-list-spec 𝓤 H 𝓜 𝓖 𝓡 =
     entered 𝓤 H (tripleOf 𝓤 H (𝓖 .A) f.signature (f.spec 𝓤 H (𝓖 .A) (𝓜 .mem) (𝓡 .run)))
     (tables 𝓤 H 𝓜 𝓡 code.env .C) (tables 𝓤 H 𝓜 𝓡 code.env .Λ) #batman·batman-list code.function (code.unfolded 𝓤 H 𝓜 𝓡)
     (list-meets 𝓤 H (𝓖 .A) (givenOf 𝓤 H 𝓜 𝓖) (𝓜 .mem) (𝓡 .run) (tablesOf 𝓤 H 𝓜 (tables 𝓤 H 𝓜 𝓡 code.env))
-    (cited 𝓤 H (LinksOf 𝓤 H (𝓖 .A) (𝓜 .mem) (𝓡 .run)) 𝓜 𝓡 code.env #listing·links-of links-def.routine code.calls-listing·links-of (links-thm.met 𝓤 H 𝓜 𝓖 𝓡))
-    (cited 𝓤 H (Fill 𝓤 H (𝓖 .A) (𝓜 .mem) (𝓡 .run)) 𝓜 𝓡 code.env #listing·fill-rows fill-def.routine code.calls-listing·fill-rows (fill-thm.met 𝓤 H 𝓜 𝓖 𝓡)))
+    (cited 𝓤 H (LinksOf 𝓤 H (𝓖 .A) (𝓜 .mem) (𝓡 .run)) 𝓜 𝓡 code.env #call-list·links-of links-def.routine code.calls-call-list·links-of (links-thm.met 𝓤 H 𝓜 𝓖 𝓡))
+    (cited 𝓤 H (Fill 𝓤 H (𝓖 .A) (𝓜 .mem) (𝓡 .run)) 𝓜 𝓡 code.env #call-list·fill-rows fill-def.routine code.calls-call-list·fill-rows (fill-thm.met 𝓤 H 𝓜 𝓖 𝓡)))

@@ -1,4 +1,4 @@
--- `listing::fill_rows` meets its contract: a walk of its MIR, by hand, with a loop. The borrow of the slice is opened once, before the loop, and closed once, after it. A turn calls `row_at` for a row and stores it.
+-- `fill_rows` meets its contract: a walk of its MIR, by hand, with a loop. The borrow of the slice is opened once, before the loop, and closed once, after it. A turn calls `row_at` for a row and stores it.
 -- The invariant: the first i rows are written. T and L are what is generated of the structs LinkRow and Links. Assumes nothing.
 use mathlib.Core.Path.{_≡_, refl, sym, _∙_, ap, subst}
 use Prim.Native.Nat.{ℕ, zero, suc, _+_, _*_, _≤_, _<_, _^_}
@@ -62,9 +62,9 @@ use Rattle.call_list.proofs.Links as L
 use Rattle.call_list.proofs.Links.Laws as L′
 use Rattle.call_list.proofs.row_at as row-at
 use Rattle.call_list.proofs.row_at.Symbol as row-at-def
-use Rattle.call_list.proofs.row_at.Symbol.{name as #listing·row-at}
+use Rattle.call_list.proofs.row_at.Symbol.{name as #call-list·row-at}
 use Rattle.call_list.proofs.row_at.Met as row-at-thm
-use Rattle.call_list.proofs.fill_rows.Key.{name as #listing·fill-rows}
+use Rattle.call_list.proofs.fill_rows.Key.{name as #call-list·fill-rows}
 use Rattle.call_list.proofs.fill_rows as f
 use Rattle.call_list.proofs.fill_rows.Statement as stated
 use Rattle.call_list.proofs.fill_rows.Code as code
@@ -146,7 +146,7 @@ module _ {M : Type 1} (𝓤 : URA M) (H : Heap 𝓤) (A : Atoms 𝓤) (W : Given
   row-of : (i : ℕ) (r : LinkRow) → ent 𝓤 (ensured 𝓤 H A row-at.ended (row-at.clauses 𝓤 H A at-mem run) tt (got, (i, tt)) tt r) (fact 𝓤 (r ≡ getD (got .rows) i zeroRow))
   row-of i r = exE 𝓤 _ (λ ws. snd∗ 𝓤 (sem 𝓤 H A (lasts row-at.ended tt (got, (i, tt)) ws)) (fact 𝓤 (r ≡ getD (got .rows) i zeroRow)))
 
-  module _ (𝓣 : Tables 𝓤 H) (known : Triple 𝓤 (𝓣 .C #listing·row-at) (RowAt 𝓤 H A at-mem run)) (room : Room T.the-row (length ys)) (is : Is L.the-row got (mach ∷ [])) (few : n ≤ linkMost) (within : n ≤ length ys) (l₀ l₁ l₂ l₃ l₄ l₅ l₆ l₇ : ℕ) where
+  module _ (𝓣 : Tables 𝓤 H) (known : Triple 𝓤 (𝓣 .C #call-list·row-at) (RowAt 𝓤 H A at-mem run)) (room : Room T.the-row (length ys)) (is : Is L.the-row got (mach ∷ [])) (few : n ≤ linkMost) (within : n ≤ length ys) (l₀ l₁ l₂ l₃ l₄ l₅ l₆ l₇ : ℕ) where
     -- an array has its length
     size : length (got .rows) ≡ linkMost
     size = sym (length-map (got .rows) _) ∙ LL.owed L.the-type L′.the-laws got _ is .0 .1 .0 .1
@@ -248,7 +248,7 @@ module _ {M : Type 1} (𝓤 : URA M) (H : Heap 𝓤) (A : Atoms 𝓤) (W : Given
     loops = via 𝓤 (Inv n) (inv-in n 0 (omega arith)) (loop-rule 𝓤 H (W .laws) 𝓣 _<_ (Nat·lt-wfRel .wf) En body.turn-1 Left Inv turns n)
 
   -- the MIR, up to the loop: the borrow is opened once, before it
-  walk : (𝓣 : Tables 𝓤 H) → Triple 𝓤 (𝓣 .C #listing·row-at) (RowAt 𝓤 H A at-mem run) → Room T.the-row (length ys) → Is L.the-row got (mach ∷ []) → (n ≤ linkMost) × (n ≤ length ys)
+  walk : (𝓣 : Tables 𝓤 H) → Triple 𝓤 (𝓣 .C #call-list·row-at) (RowAt 𝓤 H A at-mem run) → Room T.the-row (length ys) → Is L.the-row got (mach ∷ []) → (n ≤ linkMost) × (n ≤ length ys)
       → ent 𝓤 (onEntry 𝓤 H A f.signature (κ, tt) (q, tt) (x ys) at) (WpFn 𝓤 H (𝓣 .C) (𝓣 .Λ) code.function (sliceVal (b, o) (length ys) ∷ mach ∷ []) Post)
   unfolding writtenTo
   walk 𝓣 known room is needed =
@@ -262,13 +262,13 @@ module _ {M : Type 1} (𝓤 : URA M) (H : Heap 𝓤) (A : Atoms 𝓤) (W : Given
       keep ! (0 ∷ 15 ∷ 13 ∷ 11 ∷ 9 ∷ 7 ∷ 19 ∷ 17 ∷ 21 ∷ 1 ∷ 2 ∷ 3 ∷ 22 ∷ 20 ∷ 18 ∷ 16 ∷ 14 ∷ 12 ∷ 10 ∷ 8 ∷ []) $ by ! (loops 𝓣 known room is (needed .0) (needed .1) l₀ l₁ l₂ l₃ l₄ l₅ l₆ l₇)))))))))
 
 module _ {M : Type 1} (𝓤 : URA M) (H : Heap 𝓤) (A : Atoms 𝓤) (W : Given 𝓤 H A) (at-mem : Memory → SProp 𝓤) (run : Routine → Fun 𝓤) where
-  fill-rows-walks : (𝓣 : Tables 𝓤 H) → Triple 𝓤 (𝓣 .C #listing·row-at) (RowAt 𝓤 H A at-mem run) → Walks 𝓤 H A f.ended stayed (WpFn 𝓤 H (𝓣 .C) (𝓣 .Λ) code.function) (f.clauses 𝓤 H A at-mem run)
+  fill-rows-walks : (𝓣 : Tables 𝓤 H) → Triple 𝓤 (𝓣 .C #call-list·row-at) (RowAt 𝓤 H A at-mem run) → Walks 𝓤 H A f.ended stayed (WpFn 𝓤 H (𝓣 .C) (𝓣 .Λ) code.function) (f.clauses 𝓤 H A at-mem run)
   fill-rows-walks 𝓣 known = walked 𝓤 H A f.ended stayed (f.clauses 𝓤 H A at-mem run) (WpFn 𝓤 H (𝓣 .C) (𝓣 .Λ) code.function)
       (λ κs. (slice-vals, (LL.vals L.the-type L′.the-laws, tt))) (λ κs. (mut-slice-tells (named 0) (κs .0) T.the-row, (LL.tells L.the-type L′.the-laws, tt)))
       (λ κs qs bounds a g are. needs 𝓤 ((a .1 .0 .n ≤ linkMost) × (a .1 .0 .n ≤ length (a .0 .now))) _
       (walk 𝓤 H A W at-mem run (κs .0) (qs .0) (a .0 .ptr .0) (a .0 .ptr .1) (a .0 .name) (a .0 .now) (a .1 .0) 𝓣 known (are .0 .0 .1) (are .1 .0)))
 
-fill-rows-meets : {M : Type 1} (𝓤 : URA M) (H : Heap 𝓤) (A : Atoms 𝓤) → Given 𝓤 H A → (at-mem : Memory → SProp 𝓤) (run : Routine → Fun 𝓤) (𝓣 : Tables 𝓤 H) → Triple 𝓤 (𝓣 .C #listing·row-at) (RowAt 𝓤 H A at-mem run)
+fill-rows-meets : {M : Type 1} (𝓤 : URA M) (H : Heap 𝓤) (A : Atoms 𝓤) → Given 𝓤 H A → (at-mem : Memory → SProp 𝓤) (run : Routine → Fun 𝓤) (𝓣 : Tables 𝓤 H) → Triple 𝓤 (𝓣 .C #call-list·row-at) (RowAt 𝓤 H A at-mem run)
     → Meets 𝓤 H A f.signature (WpFn 𝓤 H (𝓣 .C) (𝓣 .Λ) code.function) (f.spec 𝓤 H A at-mem run)
 fill-rows-meets 𝓤 H A W at-mem run 𝓣 known =
     walk-meets 𝓤 H A f.ended stayed W (goes-slice 𝓤 H A W 1 0 tt (plain (λ _. T.the-row)), (goes-none 𝓤 H A W 1 (λ _. L.the-row) yes (λ κs x f. refl), tt))
@@ -278,6 +278,6 @@ pub fill-rows-spec : {M : Type 1} → stated.statement M
 unfolding code.routine tablesOf
 fill-rows-spec 𝓤 H 𝓜 𝓖 𝓡 =
     entered 𝓤 H (tripleOf 𝓤 H (𝓖 .A) f.signature (f.spec 𝓤 H (𝓖 .A) (𝓜 .mem) (𝓡 .run)))
-    (tables 𝓤 H 𝓜 𝓡 code.env .C) (tables 𝓤 H 𝓜 𝓡 code.env .Λ) #listing·fill-rows code.function (code.unfolded 𝓤 H 𝓜 𝓡)
+    (tables 𝓤 H 𝓜 𝓡 code.env .C) (tables 𝓤 H 𝓜 𝓡 code.env .Λ) #call-list·fill-rows code.function (code.unfolded 𝓤 H 𝓜 𝓡)
     (fill-rows-meets 𝓤 H (𝓖 .A) (givenOf 𝓤 H 𝓜 𝓖) (𝓜 .mem) (𝓡 .run) (tablesOf 𝓤 H 𝓜 (tables 𝓤 H 𝓜 𝓡 code.env))
-    (cited 𝓤 H (RowAt 𝓤 H (𝓖 .A) (𝓜 .mem) (𝓡 .run)) 𝓜 𝓡 code.env #listing·row-at row-at-def.routine code.calls-listing·row-at (row-at-thm.met 𝓤 H 𝓜 𝓖 𝓡)))
+    (cited 𝓤 H (RowAt 𝓤 H (𝓖 .A) (𝓜 .mem) (𝓡 .run)) 𝓜 𝓡 code.env #call-list·row-at row-at-def.routine code.calls-call-list·row-at (row-at-thm.met 𝓤 H 𝓜 𝓖 𝓡)))

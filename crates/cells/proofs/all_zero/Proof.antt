@@ -1,3 +1,4 @@
+-- The joined bits are 0 exactly where every cell is: the loop's invariant is that the bits so far and the cells to come are zero exactly where all are.
 use borrow.Author.Needs.{needs}
 use mathlib.Core.Path.{_≡_, refl, sym, ap, _∙_}
 use mathlib.Core.Bool.{Bool, _&&_, and-true}

@@ -1,3 +1,4 @@
+-- The loop's invariant is `Bracket`: keys before `low` are below the key, those from `high` on are not.
 use borrow.Author.Needs.{needs}
 use Prim.Native.Nat.{ℕ, _+_, _*_, _-_, _/_, _<_}
 use native.Mathlib.Omega.{arith}

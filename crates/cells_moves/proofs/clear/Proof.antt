@@ -1,3 +1,4 @@
+-- The loop's invariant: the first i cells are zero.
 use borrow.Author.Needs.{needs}
 use mathlib.Core.Path.{_≡_, refl, _∙_}
 use Prim.Native.Nat.{_-_, _≤_}

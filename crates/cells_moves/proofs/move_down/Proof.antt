@@ -1,3 +1,4 @@
+-- The loop's invariant: the first j cells have been copied, and those to come are as they were.
 use borrow.Author.Needs.{needs}
 use mathlib.Core.Path.{_≡_, refl, sym, ap, _∙_}
 use Prim.Native.Nat.{ℕ, _+_, _-_, _≤_}
@@ -16,6 +17,10 @@ Inv-loop cells₀ from to w j₀ cells j = (j ≤ w) × (length cells ≡ length
 abbrev μ-loop : tie.MeasureT-loop
 μ-loop cells₀ from to w j₀ cells j = w - j
 
+-- the function's entry, from the loop's test
+abbrev entry : tie.At-loop Inv-loop μ-loop → tie.Start Inv-loop μ-loop
+entry c = c .before .before
+
 loop-holds : tie.Need-loop-holds Inv-loop μ-loop
 loop-holds c =
     let a = c .before .args in
@@ -24,14 +29,16 @@ loop-holds c =
 -- the second cell is within, as the first that was written leaves as many
 second-fits : tie.Need-slice-write-cells-2 Inv-loop μ-loop
 second-fits c =
-    let l = c .before .before .before .loop in
-    let a = c .before .before .before .before .before .args in
+    let o = c .before .before .before in
+    let l = o .loop in
+    let a = entry o .args in
     omega (arith, length-set (l .cells) (a .to + l .j) (getD (l .cells) (a .from + l .j) 0), l .inv .1)
 
 loop-again : tie.Need-loop-again Inv-loop μ-loop
 loop-again c =
-    let l = c .before .before .before .loop in
-    let a = c .before .before .before .before .before .args in
+    let o = c .before .before .before in
+    let l = o .loop in
+    let a = entry o .args in
     let xs = a .cells .now in
     let s = source xs (a .from) (a .w) in
     let e : a .from + l .j + 1 ≡ a .from + (l .j + 1) = omega arith in
@@ -49,8 +56,9 @@ returns c =
 
 returns-2 : tie.Need-returns-2 Inv-loop μ-loop
 returns-2 c =
-    let l = c .before .before .before .loop in
-    let a = c .before .before .before .before .before .args in
+    let o = c .before .before .before in
+    let l = o .loop in
+    let a = entry o .args in
     let xs = a .cells .now in
     let s = source xs (a .from) (a .w) in
     let v = ap (λ (x : List ℕ). getD x (a .from + l .j) 0) (l .inv .2) ∙ down-cell xs (a .from) (a .to) (a .w) (l .j) (l .j) (omega arith) (omega arith) (omega arith) (omega arith) in
@@ -62,8 +70,9 @@ same-length-2 c = c .before .before .loop .inv .1
 
 returns-3 : tie.Need-returns-3 Inv-loop μ-loop
 returns-3 c =
-    let l = c .before .before .loop in
-    let a = c .before .before .before .before .args in
+    let o = c .before .before in
+    let l = o .loop in
+    let a = entry o .args in
     let xs = a .cells .now in
     l .inv .2 ∙ paste-done xs (source xs (a .from) (a .w)) (a .to) (l .j) (sym (length-source xs (a .from) (a .w) (omega arith) ∙ (omega arith)))
 

@@ -1,3 +1,4 @@
+-- A link yields where it is this one, or its count, which is that of its word, is not above `high`.
 use borrow.Author.Needs.{needs}
 use mathlib.Core.Path.{ap}
 use Prim.Native.Nat.{ℕ}
@@ -9,7 +10,7 @@ use Rattle.count_best_link.proofs.yields.Tie as tie
 
 returns : tie.Need-returns
 unfolding notHigher
-returns c κ = ap (λ (n : ℕ). eqb (c .before .args .key) (c .before .args .this) || leb n (c .before .args .high)) (c .count .ensures)
+returns c κ f = ap (λ (n : ℕ). eqb (c .before .args .key) (c .before .args .this) || leb n (c .before .args .high)) (c .count .ensures)
 
 pub yields-spec : {M : Type 1} → statement M
 yields-spec = tie.close (tie.spec (λ c κs. search needs) returns)

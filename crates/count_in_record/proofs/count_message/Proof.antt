@@ -1,40 +1,79 @@
+-- The links are recounted on a scratch; the row is written where they fit, and is then the next record's.
 use borrow.Author.Needs.{needs}
-use mathlib.Core.Path.{refl, sym}
-use Prim.Native.Nat.{_*_}
+use mathlib.Core.Path.{_≡_, refl, sym, ap, subst}
+use mathlib.Core.List.{List}
+use Prim.Native.Nat.{ℕ, _*_, _<_}
 use native.Mathlib.Omega.{arith}
-use lib.ListN.{getD}
+use lib.ListN.{length, take, getD}
 use lib.Seq.{length-take-le}
+use Rattle.window.specs.Window.{numbers}
 use Rattle.rules.specs.Settings.{linkMost, linkCells}
-use Rattle.table_record.specs.Record.{currentAt}
-use Rattle.count_in_record.proofs.Rows.{part-sorted, next-near, counted-not, counted-now}
+use Rattle.table_record.specs.Links.{linksFrom}
+use Rattle.table_record.specs.Record.{currentAt, linksAt}
+use Rattle.table_record.proofs.Rows.{part-size}
+use Rattle.count_links.specs.Links.{SpotOf}
+use Rattle.count_in_record.proofs.Rows.{next-near, counted-not, counted-now}
 use Rattle.count_in_record.proofs.count_message.Statement.{statement}
 use Rattle.count_in_record.proofs.count_message.Tie as tie
 
+-- ---- the places before each
+
+abbrev from-advance : tie.After-advance → tie.Start
+from-advance c = c .before .before .before .before
+
+abbrev from-links : tie.After-links-part → tie.After-advance
+from-links c = c .before .before .before .before .before
+
+abbrev from-out : tie.After-out2 → tie.After-links-part
+from-out c = c .before .before
+
+abbrev from-store : tie.After-out3 → tie.After-out2
+from-store c = c .before .before .before
+
+-- its number has two octets
+small : (s : tie.Start) → s .args .m .sequence < numbers
+small s = omega arith
+
 recount-requires : tie.Need-recount-requires
 recount-requires c κs =
-    let s = c .before .before .before .before .before .before .before .before .before in
+    let next = from-links c in
+    let s = from-advance next in
     let a = s .args in
-    let h = next-near (a .w) (getD (a .row .now) currentAt 0) (a .number) (omega arith) (c .before .before .before .before .before .advance .ensures) (c .before .before .before .distance2 .ensures) in
-    ((part-sorted (a .row .now) (s .pre .0), s .pre .0 .few, omega arith, omega arith, omega arith), record { size = refl; cells = refl })
+    let row = a .row .now in
+    let h = next-near (a .p .window) (getD row currentAt 0) (a .m .sequence) (omega arith) (next .advance .ensures) (c .before .before .before .distance2 .ensures) in
+    let size = ap length (c .links-part .ensures) in (
+      (omega (arith, size, part-size row (s .pre .0 .size)), s .pre .0 .few, s .pre .1, omega arith),
+      (record { size = refl; cells = refl }, subst (λ (part : List ℕ). SpotOf (linksFrom (getD row linksAt 0) part) (a .m .link) (a .spot)) (sym (c .links-part .ensures)) (s .pre .2)),
+    )
 
 returns : tie.Need-returns
-returns c κ e =
-    let a = c .before .before .before .before .before .before .before .before .before .before .before .before .args in
-    counted-not κ (a .row .now) (a .ttl) (a .time) e (omega arith) (c .before .before .before .before .before .before .before .before .advance .ensures) (c .before .before .before .before .before .before .before .distance .ensures) (c .before .before .before .before .before .before .distance2 .ensures) (c .before .before .recount .ensures) (c .if1 .taken)
+returns c κ f =
+    let out = c .before in
+    let links = from-out out in
+    let next = from-links links in
+    let a = from-advance next .args in
+    counted-not κ (a .row .now) (a .m) f (small (from-advance next)) (next .advance .ensures) (links .before .before .before .before .distance .ensures) (links .before .before .before .distance2 .ensures) (links .links-part .ensures)
+    (out .before .recount .ensures) (c .if1 .taken)
 
-slice-aggregate-store : tie.Need-slice-aggregate-store
-slice-aggregate-store c =
-    sym (length-take-le (linkMost * linkCells) (c .before .before .before .before .recount .last .0) (omega (arith, c .before .before .before .before .recount .kept .0)))
+-- the links, as they are lent to be written
+abbrev written-links : tie.After-out2 → List ℕ
+written-links c = take (linkMost * linkCells) (c .before .recount .last .0)
+
+links-length : (c : tie.After-out2) → length (written-links c) ≡ linkMost * linkCells
+links-length c = length-take-le (linkMost * linkCells) (c .before .recount .last .0) (omega (arith, c .before .recount .kept .0))
 
 store-requires : tie.Need-store-requires
-store-requires c κs =
-    (c .before .before .before .before .before .before .before .before .before .before .before .before .before .before .pre .0 .size, length-take-le (linkMost * linkCells) (c .before .before .before .before .recount .last .0) (omega (arith, c .before .before .before .before .recount .kept .0)))
+store-requires c κs = let out = from-store c in (from-advance (from-links (from-out out)) .pre .0 .size, links-length out)
 
 returns-2 : tie.Need-returns-2
-returns-2 c κ e =
-    let a = c .before .before .before .before .before .before .before .before .before .before .before .before .before .before .before .before .before .args in
-    counted-now κ (a .row .now) (a .ttl) (a .time) e (omega arith) (c .before .before .before .before .before .before .before .before .before .before .before .before .before .advance .ensures) (c .before .before .before .before .before .before .before .before .before .before .before .before .distance .ensures) (c .before .before .before .before .before .before .before .before .before .before .before .distance2 .ensures) (c .before .before .before .before .before .before .before .recount .ensures)
-    _ (c .before .before .before .before .before .before .before .recount .kept .0) (c .before .before .before .before .before .if1 .left) (c .before .before .store .ensures)
+returns-2 c κ f =
+    let stored = c .before .before in
+    let out = from-store (stored .before) in
+    let links = from-out out in
+    let next = from-links links in
+    let a = from-advance next .args in
+    counted-now κ (a .row .now) (a .m) f (small (from-advance next)) (next .advance .ensures) (links .before .before .before .before .distance .ensures) (links .before .before .before .distance2 .ensures) (links .links-part .ensures)
+    (out .before .recount .ensures) _ (out .before .recount .kept .0) (stored .before .before .before .if1 .left) (stored .store .ensures)
 
 pub count-message-spec : {M : Type 1} → statement M
 count-message-spec =
@@ -47,16 +86,13 @@ count-message-spec =
     (λ c κs. search needs)
     (λ c κs. search needs)
     (λ c. search needs)
-    (λ c. search needs)
-    (λ c. search needs)
-    (λ c. search needs)
+    (λ c κs. search needs)
     (λ c. search needs)
     recount-requires
     (λ c. search needs)
     returns
     (λ c. search needs)
-    (λ c. search needs)
-    slice-aggregate-store
+    (λ c. sym (links-length (from-store c)))
     store-requires
     (λ c. search needs)
     returns-2)

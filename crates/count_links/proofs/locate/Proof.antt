@@ -1,5 +1,6 @@
+-- What the search found is the spot: at a link, with its marks, or between two, with none.
 use borrow.Author.Needs.{needs}
-use Prim.Native.Nat.{_+_, _*_, _<_}
+use Prim.Native.Nat.{_+_, _*_, _≤_}
 use native.Mathlib.Omega.{arith}
 use lib.ListN.{length}
 use Rattle.rules.specs.Settings.{linkCells}
@@ -7,7 +8,7 @@ use Rattle.count_links.proofs.Places.{found-within, located-at, located
 use Rattle.count_links.proofs.locate.Statement.{statement}
 use Rattle.count_links.proofs.locate.Tie as tie
 
-within : (c : tie.After-f) → c .f .given .0 .0 * linkCells + 1 < length (c .before .before .before .before .args .part .now)
+within : (c : tie.After-f) → (c .f .given .0 .0 + 1) * linkCells ≤ length (c .before .before .before .before .args .part .now)
 within c =
     let s = c .before .before .before .before in
     found-within (s .args .n) (s .args .part .now) (s .pre) (s .args .key) (c .before .before .find .ensures) (c .f .given .1)
@@ -15,27 +16,20 @@ within c =
 add-t8 : tie.Need-add-t8
 add-t8 c = omega (arith, within (c .before))
 
-mul-t9 : tie.Need-mul-t9
-mul-t9 c = omega (arith, within (c .before))
-
-add-t10 : tie.Need-add-t10
-add-t10 c = omega (arith, within (c .before))
-
-mul-t11 : tie.Need-mul-t11
-mul-t11 c = omega (arith, within (c .before))
-
-shared-slice-read-t13 : tie.Need-shared-slice-read-t13
-shared-slice-read-t13 c = within (c .before .before)
+marks-at-requires : tie.Need-marks-at-requires
+marks-at-requires c κs = within (c .before)
 
 returns : tie.Need-returns
 returns c =
-    let s = c .before .before .before .before .before .before in
-    located-at (s .args .n) (s .args .part .now) (s .pre) (s .args .key) (c .before .before .before .before .find .ensures) (c .before .before .f .given .1)
+    let found = c .before .before in
+    let s = found .before .before .before .before in
+    located-at (s .args .n) (s .args .part .now) (s .pre) (s .args .key) (found .before .before .find .ensures) (found .f .given .1) (c .marks-at .ensures)
 
 returns-2 : tie.Need-returns-2
 returns-2 c =
-    let s = c .before .before .before .before .before in
-    located-place (s .args .n) (s .args .part .now) (s .pre) (s .args .key) (c .before .before .before .find .ensures) (c .before .f2 .given .1)
+    let found = c .before .before in
+    let s = found .before .before .before .before in
+    located-place (s .args .n) (s .args .part .now) (s .pre) (s .args .key) (found .before .before .find .ensures) (c .no-marks .ensures) (found .f2 .given .1)
 
 pub locate-spec : {M : Type 1} → statement M
 locate-spec =
@@ -44,10 +38,8 @@ locate-spec =
     (λ c κs. search needs)
     (λ c. search needs)
     add-t8
-    mul-t9
-    add-t10
-    mul-t11
-    shared-slice-read-t13
+    marks-at-requires
     (λ c. search needs)
+    (λ c κs. search needs)
     returns
     returns-2)

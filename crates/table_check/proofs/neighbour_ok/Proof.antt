@@ -1,3 +1,4 @@
+-- A row passes exactly where `rowTests` does: a number out of range never, and for others the interface's cells decide.
 use borrow.Author.Needs.{needs}
 use mathlib.Core.Path.{sym}
 use Prim.Native.Nat.{_%_}
@@ -14,6 +15,10 @@ use Rattle.table_check.proofs.Turns.{neighbour-tests}
 use Rattle.table_check.proofs.neighbour_ok.Statement.{statement}
 use Rattle.table_check.proofs.neighbour_ok.Tie as tie
 
+-- the function's entry, from where both interface cells are read
+abbrev entry : tie.After-shared-slice-known4 → tie.Start
+entry c = c .before .before .before .before .before
+
 returns : tie.Need-returns
 returns c =
     let a = c .before .before .args in
@@ -22,12 +27,12 @@ returns c =
 
 cast-distance : tie.Need-cast-distance
 cast-distance c =
-    let s = c .before .before .before .before .before in
+    let s = entry c in
     omega (arith, s .pre .1 .last (s .args .pair % 4) (omega arith))
 
 returns-2 : tie.Need-returns-2
 returns-2 c =
-    let a = c .before .before .before .before .before .before .before .args in
+    let a = entry (c .before .before) .args in
     neighbour-tests (a .cells .now) (a .pair) (a .number) (c .before .distance .result) (omega arith) (c .before .distance .ensures)
 
 pub neighbour-ok-spec : {M : Type 1} → statement M

@@ -1,3 +1,4 @@
+-- The loop's invariant: the scan of the rows to come is the scan of all; what follows the rows is zero.
 use borrow.Author.Needs.{needs}
 use mathlib.Core.Path.{_≡_, refl, sym, ap, _∙_}
 use Prim.Native.Nat.{_+_, _*_}
@@ -21,21 +22,28 @@ Inv-loop cells low₀ at₀ left₀ low at left = (at + left * neighbourCells �
 abbrev μ-loop : tie.MeasureT-loop
 μ-loop cells low₀ at₀ left₀ low at left = left
 
+-- places: the loop's test, from the end of a turn; the function's entry, from the loop's test
+abbrev turn : tie.Else1 Inv-loop μ-loop → tie.At-loop Inv-loop μ-loop
+turn c = c .before .before .before .before .before
+
+abbrev entry : tie.At-loop Inv-loop μ-loop → tie.Start Inv-loop μ-loop
+entry c = c .before .before .before
+
 loop-holds : tie.Need-loop-holds Inv-loop μ-loop
 loop-holds c = (refl, refl)
 
 add-low : tie.Need-add-low Inv-loop μ-loop
 add-low c =
-    let l = c .before .before .before .before .before .loop in
-    let xs = c .before .before .before .before .before .before .before .before .args .cells .now in
+    let l = turn c .loop in
+    let xs = entry (turn c) .args .cells .now in
     let ok = c .before .neighbour-ok in
     let h = and-right (leb (l .low) (getD xs (l .at) 0)) (ok .result) (not-false _ (c .if1 .left)) in
     omega (arith, neighbour-small xs (getD xs (l .at) 0) (getD xs (l .at + 1) 0) (sym (ok .ensures) ∙ h))
 
 loop-again : tie.Need-loop-again Inv-loop μ-loop
 loop-again c =
-    let l = c .before .before .before .before .before .loop in
-    let xs = c .before .before .before .before .before .before .before .before .args .cells .now in
+    let l = turn c .loop in
+    let xs = entry (turn c) .args .cells .now in
     let ok = c .before .neighbour-ok in (
       omega arith,
       sym (neighbours-next xs (l .low) (l .at) (l .left) (leb (l .low) (getD xs (l .at) 0) && ok .result) (ap (λ (b : Bool). leb (l .low) (getD xs (l .at) 0) && b) (ok .ensures)) (omega arith) (not-false _ (c .if1 .left))) ∙ l .inv .1,
@@ -45,7 +53,7 @@ returns : tie.Need-returns Inv-loop μ-loop
 returns c =
     let o = c .before .before in
     let l = o .before .loop in
-    let s = c .before .before .before .before .before .before in
+    let s = entry (o .before) in
     let xs = s .args .cells .now in
     let few = s .pre .0 .rows in
     let first = leb (l .low) (getD xs (l .at) 0) in

@@ -1,3 +1,4 @@
+-- The address of an interface in use, or the first one again.
 use borrow.Author.Needs.{needs}
 use mathlib.Core.Path.{sym, ap}
 use mathlib.Core.Bool.{Bool, cond}

@@ -1,3 +1,4 @@
+-- The loop's invariant: the scan of the records to come is the scan of all; what follows them is zero.
 use borrow.Author.Needs.{needs}
 use Rattle.table_record.specs.Record.{addressAt}
 use mathlib.Core.Path.{_≡_, refl, sym, ap, _∙_, subst}
@@ -21,21 +22,28 @@ Inv-loop part n limits low₀ at₀ left₀ low at left = (at + left * recordCel
 abbrev μ-loop : tie.MeasureT-loop
 μ-loop part n limits low₀ at₀ left₀ low at left = left
 
+-- places: the loop's test, from the end of a turn; the function's entry, from the loop's test
+abbrev turn : tie.After-shared-slice-known2 Inv-loop μ-loop → tie.At-loop Inv-loop μ-loop
+turn c = c .before .before .before .before .before
+
+abbrev entry : tie.At-loop Inv-loop μ-loop → tie.Start Inv-loop μ-loop
+entry c = c .before .before
+
 loop-holds : tie.Need-loop-holds Inv-loop μ-loop
 loop-holds c = (omega arith, λ κ time d. refl)
 
 add-low : tie.Need-add-low Inv-loop μ-loop
 add-low c =
-    let l = c .before .before .before .before .before .loop in
-    let p = c .before .before .before .before .before .before .before .args .part .now in
+    let l = turn c .loop in
+    let p = entry (turn c) .args .part .now in
     let e : getD (take (l .at + recordCells - l .at) (drop (l .at) p)) addressAt 0 ≡ getD p (l .at) 0 = part-first p (l .at) recordCells (omega arith) (omega arith) in
     let h : getD p (l .at) 0 < 4294967296 = subst (λ (k : ℕ). k < 4294967296) e (c .before .before .record-ok .ensures .small (not-false _ (c .before .if1 .left))) in
     omega (arith, h)
 
 loop-again : tie.Need-loop-again Inv-loop μ-loop
 loop-again c =
-    let l = c .before .before .before .before .before .loop in
-    let p = c .before .before .before .before .before .before .before .args .part .now in
+    let l = turn c .loop in
+    let p = entry (turn c) .args .part .now in
     let ok = c .before .before .record-ok in (
       omega arith,
       λ κ time d. sym (records-next κ time (l .low) p (l .at) (l .left) (omega arith) (ok .result) (ok .ensures .tests κ time d) (omega arith) (not-false _ (c .before .if1 .left))) ∙ l .inv .1 κ time d,
@@ -45,7 +53,7 @@ returns : tie.Need-returns Inv-loop μ-loop
 returns c =
     let o = c .before .before in
     let l = o .before .loop in
-    let a = c .before .before .before .before .before .args in
+    let a = entry (o .before) .args in
     let p = a .part .now in
     λ κ time d. records-done κ time (a .n) p (eqb (l .left) 0) (c .all-zero .result)
     (⊎-elim

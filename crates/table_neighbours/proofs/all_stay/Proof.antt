@@ -1,4 +1,4 @@
--- `neighbours::all_stay` meets its contract: the loop's invariant is that the test of the rows to come is the test of all. Assumes nothing.
+-- The loop's invariant: the test of the rows to come is the test of all.
 use mathlib.Core.Path.{_≡_, refl, sym, ap, _∙_}
 use mathlib.Core.Logic.{⊎-elim}
 use mathlib.Core.Bool.{Bool, true, _&&_}
@@ -27,6 +27,10 @@ Inv-loop rows n interface last timeout at₀ left₀ at left =
 abbrev μ-loop : tie.MeasureT-loop
 μ-loop rows n interface last timeout at₀ left₀ at left = left
 
+-- the loop's test, from the end of a turn
+abbrev turn : tie.Else1 Inv-loop μ-loop → tie.At-loop Inv-loop μ-loop
+turn c = c .before .before .before .before .before
+
 loop-holds : tie.Need-loop-holds Inv-loop μ-loop
 loop-holds c = let s = c .before in (omega (arith, size (s .args .n) (s .args .rows .now) (s .pre), s .pre .most), s .pre .numbers, refl)
 
@@ -39,7 +43,7 @@ stays-requires c κs =
 
 loop-again : tie.Need-loop-again Inv-loop μ-loop
 loop-again c =
-    let o = c .before .before .before .before .before in
+    let o = turn c in
     let l = o .loop in
     let a = o .before .before .args in
     let xs = a .rows .now in

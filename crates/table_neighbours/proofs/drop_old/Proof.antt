@@ -1,4 +1,4 @@
--- `neighbours::drop_old` meets its contract: nothing changes where every row stays. Assumes nothing.
+-- Nothing changes where every row stays, and else the rows that stay are kept.
 use mathlib.Core.Path.{sym, _∙_}
 use borrow.Author.Needs.{needs}
 use denote.Ref.{now}

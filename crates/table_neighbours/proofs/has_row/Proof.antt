@@ -1,4 +1,4 @@
--- `neighbours::has_row` meets its contract. Assumes nothing.
+-- A link has a row exactly where the search finds its key.
 use mathlib.Core.Path.{sym, subst}
 use mathlib.Core.List.{List}
 use Prim.Native.Nat.{ℕ}

@@ -1,4 +1,4 @@
--- `neighbours::keep_rows` meets its contract: the loop's invariant is a pass over the rows (`Rows.Going`). Assumes nothing.
+-- The loop's invariant is a pass over the rows (`Rows.Going`).
 use mathlib.Core.Path.{sym, _∙_}
 use mathlib.Core.Logic.{⊎-elim}
 use Prim.Native.Nat.{_-_}
@@ -14,20 +14,30 @@ Inv-loop rows₀ n interface last timeout kept₀ to₀ from₀ left₀ rows kep
 abbrev μ-loop : tie.MeasureT-loop
 μ-loop rows₀ n interface last timeout kept₀ to₀ from₀ left₀ rows kept to from left = left
 
+-- places: the loop's test, from the end of a turn and from the function's end; the function's entry, from the loop's test
+abbrev turn : tie.Joined1 Inv-loop μ-loop → tie.At-loop Inv-loop μ-loop
+turn c = c .before .before .before .before .before
+
+abbrev done : tie.After-slice-known5 Inv-loop μ-loop → tie.At-loop Inv-loop μ-loop
+done c = c .before .before .before .before .before
+
+abbrev entry : tie.At-loop Inv-loop μ-loop → tie.Start Inv-loop μ-loop
+entry c = c .before .before
+
 loop-holds : tie.Need-loop-holds Inv-loop μ-loop
 loop-holds c = let s = c .before in start (s .args .n) (s .args .interface) (s .args .last) (s .args .timeout) (now (s .args .rows)) (s .pre)
 
 stays-requires : tie.Need-stays-requires Inv-loop μ-loop
 stays-requires c κs =
     let at-loop = c .before .before .before in
-    let a = at-loop .before .before .args in
+    let a = entry at-loop .args in
     let l = at-loop .loop in
     number-read (a .n) (a .interface) (a .last) (a .timeout) (now (a .rows)) (l .rows) (l .kept) (l .to) (l .from) (l .left) (l .inv) (c .before .before .loop-test .taken)
 
 loop-again : tie.Need-loop-again Inv-loop μ-loop
 loop-again c =
-    let at-loop = c .before .before .before .before .before in
-    let a = at-loop .before .before .args in
+    let at-loop = turn c in
+    let a = entry at-loop .args in
     let l = at-loop .loop in
     ⊎-elim
     (λ w. along (a .n) (a .interface) (a .last) (a .timeout) (now (a .rows)) (w .5) (w .6) (w .7)
@@ -40,16 +50,16 @@ loop-again c =
 
 same-length : tie.Need-same-length Inv-loop μ-loop
 same-length c =
-    let at-loop = c .before .before .before .before .before in
-    let s = at-loop .before .before in
+    let at-loop = done c in
+    let s = entry at-loop in
     let a = s .args in
     let l = at-loop .loop in
     left-size (a .n) (a .interface) (a .last) (a .timeout) (now (a .rows)) (l .rows) (l .kept) (l .to) (l .from) (l .left) (s .pre) (l .inv) (search needs) _ (c .before .before .clear .ensures)
 
 returns : tie.Need-returns Inv-loop μ-loop
 returns c =
-    let at-loop = c .before .before .before .before .before in
-    let s = at-loop .before .before in
+    let at-loop = done c in
+    let s = entry at-loop in
     let a = s .args in
     let l = at-loop .loop in (
       left-rows (a .n) (a .interface) (a .last) (a .timeout) (now (a .rows)) (l .rows) (l .kept) (l .to) (l .from) (l .left) (s .pre) (l .inv) (search needs) _ (c .before .before .clear .ensures),

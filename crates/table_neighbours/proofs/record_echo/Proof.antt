@@ -1,4 +1,4 @@
--- `neighbours::record_echo` meets its contract. Assumes nothing.
+-- A row that is found takes the number in its place, a new one is put in, and with no room left nothing changes.
 use mathlib.Core.Path.{subst}
 use Prim.Native.Nat.{_<_}
 use native.Mathlib.Omega.{arith}
@@ -16,63 +16,83 @@ use Rattle.table_neighbours.proofs.record_echo.Tie as tie
 find-requires : tie.Need-find-requires
 find-requires c κs = asks _ _ (c .before .before .pre)
 
--- where the link's row is, or would be
-at : (c : tie.After-f) → let s = c .before .before .before .before .before in IsAt (column pairCells (s .args .n) (now (s .args .rows))) (s .args .link) (c .f .given .0 .0)
-at c =
-    let s = c .before .before .before .before .before in
-    subst (λ (f : Found). FoundIn (column pairCells (s .args .n) (now (s .args .rows))) (s .args .link) f) (c .f .given .1) (c .before .before .find .ensures)
+-- ---- places: the function's entry, from the search; the search, from where its result is taken apart
 
-place : (c : tie.After-f2) → let s = c .before .before .before .before .before in IsPlace (column pairCells (s .args .n) (now (s .args .rows))) (s .args .link) (c .f2 .given .0 .0)
+abbrev entry : tie.After-find → tie.Start
+entry c = c .before .before .before
+
+abbrev at-row : tie.After-f → tie.After-find
+at-row c = c .before .before
+
+abbrev at-place : tie.After-f2 → tie.After-find
+at-place c = c .before .before
+
+abbrev over : tie.After-write → tie.After-f
+over c = c .before .before .before .before
+
+abbrev room-for : tie.After-put-in-arg → tie.After-f2
+room-for c = c .before .before .before
+
+-- ---- where the link's row is, or would be
+
+at : (c : tie.After-f) → let s = entry (at-row c) in IsAt (column pairCells (s .args .n) (now (s .args .rows))) (s .args .link) (c .f .given .0 .0)
+at c =
+    let s = entry (at-row c) in
+    subst (λ (f : Found). FoundIn (column pairCells (s .args .n) (now (s .args .rows))) (s .args .link) f) (c .f .given .1) (at-row c .find .ensures)
+
+place : (c : tie.After-f2) → let s = entry (at-place c) in IsPlace (column pairCells (s .args .n) (now (s .args .rows))) (s .args .link) (c .f2 .given .0 .0)
 place c =
-    let s = c .before .before .before .before .before in
-    subst (λ (f : Found). FoundIn (column pairCells (s .args .n) (now (s .args .rows))) (s .args .link) f) (c .f2 .given .1) (c .before .before .find .ensures)
+    let s = entry (at-place c) in
+    subst (λ (f : Found). FoundIn (column pairCells (s .args .n) (now (s .args .rows))) (s .args .link) f) (c .f2 .given .1) (at-place c .find .ensures)
 
 -- there is room for one more
-room : (c : tie.After-put-in-arg) → c .before .before .before .before .before .before .before .before .args .n < neighbourMost
-room c = let m = c .before .before .before .before .before .before .before .before .pre .most in omega (arith, c .before .if1 .left)
+room : (c : tie.After-put-in-arg) → entry (at-place (room-for c)) .args .n < neighbourMost
+room c = let m = entry (at-place (room-for c)) .pre .most in omega (arith, c .before .if1 .left)
 
 mul-write : tie.Need-mul-write
 mul-write c =
     let f = c .before .before in
-    let s = f .before .before .before .before .before in
+    let s = entry (at-row f) in
     omega (arith, at-room (s .args .n) (now (s .args .rows)) (s .pre) (s .args .link) (f .f .given .0 .0) (at f))
 
 write-requires : tie.Need-write-requires
 write-requires c κs =
     let f = c .before .before .before in
-    let s = f .before .before .before .before .before in
+    let s = entry (at-row f) in
     omega (arith, size (s .args .n) (now (s .args .rows)) (s .pre), at-room (s .args .n) (now (s .args .rows)) (s .pre) (s .args .link) (f .f .given .0 .0) (at f))
 
 returns : tie.Need-returns
 returns c =
     let f = c .before .before in
-    let s = f .before .before .before .before .before in
+    let s = entry (at-place f) in
     no-room (s .args .n) (now (s .args .rows)) (s .pre) (s .args .link) (f .f2 .given .0 .0) 0 (now (s .args .rows)) (place f) (c .if1 .taken)
 
 mul-put-in : tie.Need-mul-put-in
 mul-put-in c =
-    let f = c .before .before .before in
-    let s = f .before .before .before .before .before in
+    let f = room-for c in
+    let s = entry (at-place f) in
     omega (arith, place-room (s .args .n) (now (s .args .rows)) (s .pre) (s .args .link) (f .f2 .given .0 .0) (place f) (room c))
 
 put-in-requires : tie.Need-put-in-requires
 put-in-requires c κs =
-    let f = c .before .before .before .before in
-    let s = f .before .before .before .before .before in
+    let f = room-for (c .before) in
+    let s = entry (at-place f) in
     omega (arith, size (s .args .n) (now (s .args .rows)) (s .pre), place-room (s .args .n) (now (s .args .rows)) (s .pre) (s .args .link) (f .f2 .given .0 .0) (place f) (room (c .before)))
 
 returns-2 : tie.Need-returns-2
 returns-2 c =
-    let f = c .before .before .before .before .before .before in
-    let s = f .before .before .before .before .before in
-    recorded-over (s .args .n) (now (s .args .rows)) (s .pre) (s .args .link) (f .f .given .0 .0) (s .args .number) _ (at f) (c .before .before .write .ensures)
+    let w = c .before .before in
+    let f = over w in
+    let s = entry (at-row f) in
+    recorded-over (s .args .n) (now (s .args .rows)) (s .pre) (s .args .link) (f .f .given .0 .0) (s .args .number) _ (at f) (w .write .ensures)
 
 returns-3 : tie.Need-returns-3
 returns-3 c =
-    let f = c .before .before .before .before .before .before .before in
-    let s = f .before .before .before .before .before in
-    recorded-new (s .args .n) (now (s .args .rows)) (s .pre) (s .args .link) (f .f2 .given .0 .0) (s .args .number) _ (place f) (room (c .before .before .before .before))
-    (c .before .before .put-in .ensures)
+    let p = c .before .before in
+    let r = p .before .before in
+    let f = room-for r in
+    let s = entry (at-place f) in
+    recorded-new (s .args .n) (now (s .args .rows)) (s .pre) (s .args .link) (f .f2 .given .0 .0) (s .args .number) _ (place f) (room r) (p .put-in .ensures)
 
 pub record-echo-spec : {M : Type 1} → statement M
 record-echo-spec =

@@ -1,4 +1,4 @@
--- `neighbours::stays` meets its contract. Assumes nothing.
+-- The code's test is `staysAfter`, a recorded number being a sequence number.
 use mathlib.Core.Path.{ap, _∙_}
 use mathlib.Core.Bool.{not, _||_}
 use Prim.Native.Nat.{ℕ, _%_}

@@ -1,43 +1,35 @@
+-- `route_of` gives the route by the marks of the best link among those in the part that was lent.
 use borrow.Author.Needs.{needs}
 use mathlib.Core.Path.{sym, ap, _∙_, subst}
 use mathlib.Core.List.{List}
 use Prim.Native.Nat.{ℕ}
 use lib.ListN.{getD}
-use Rattle.cells.specs.Pairs.{pairsOf}
 use Rattle.cells.specs.Find.{Sorted}
-use Rattle.cells.proofs.Lent.{tail-is}
 use Rattle.window.specs.Window.{count}
-use Rattle.rules.specs.Settings.{linkCells, recordHeadCells}
+use Rattle.rules.specs.Settings.{linkCells}
 use Rattle.rules.specs.Table.{marksAt}
+use Rattle.table_record.specs.Links.{linksFrom}
 use Rattle.table_record.specs.Record.{linksAt, bestAt}
-use Rattle.table_record.proofs.Routes.{links-sorted, route-is}
+use Rattle.table_record.proofs.Routes.{held-sorted, route-is}
 use Rattle.table_record.proofs.route_of.Statement.{statement}
 use Rattle.table_record.proofs.route_of.Tie as tie
 
+abbrev from-part : tie.After-links-part → tie.Start
+from-part c = c .before .before .before
+
 marks-of-requires : tie.Need-marks-of-requires
 marks-of-requires c κs =
-    let s = c .before .before .before .before in
+    let s = from-part (c .before) in
     let row = s .args .row .now in
-    subst (Sorted linkCells (getD row linksAt 0)) (sym (tail-is row recordHeadCells)) (links-sorted row (s .pre))
+    subst (Sorted linkCells (getD row linksAt 0)) (sym (c .before .links-part .ensures)) (held-sorted row (s .pre))
 
 returns : tie.Need-returns
 returns c =
-    let a = c .before .before .before .before .before .before .args in
+    let part = c .before .before .before in
+    let a = from-part part .args in
     let row = a .row .now in
-    let e = c .count .ensures ∙ ap count (c .before .marks-of .ensures ∙ ap (λ (l : List ℕ). marksAt (pairsOf (getD row linksAt 0) l) (getD row bestAt 0)) (tail-is row recordHeadCells)) in
+    let e = c .count .ensures ∙ ap count (c .before .marks-of .ensures ∙ ap (λ (l : List ℕ). marksAt (linksFrom (getD row linksAt 0) l) (getD row bestAt 0)) (part .links-part .ensures)) in
     λ κ w. route-is κ row (c .count .result) (a .window) e w
 
 pub route-of-spec : {M : Type 1} → statement M
-route-of-spec =
-    tie.close
-    (tie.spec
-    (λ c. search needs)
-    (λ c. search needs)
-    (λ c. search needs)
-    (λ c. search needs)
-    (λ c. search needs)
-    marks-of-requires
-    (λ c. search needs)
-    (λ c. search needs)
-    (λ c κs. search needs)
-    returns)
+route-of-spec = tie.close (tie.spec (λ c. search needs) (λ c κs. search needs) (λ c. search needs) marks-of-requires (λ c. search needs) (λ c. search needs) (λ c κs. search needs) returns)

@@ -1,3 +1,4 @@
+-- `fields_ok` makes the tests of the fields before the links, each at once.
 use borrow.Author.Needs.{needs}
 use borrow.Author.Tests.{ltb-true, leb-true}
 use Rattle.lists.proofs.Tests.{and-left, and-right}
@@ -5,24 +6,29 @@ use mathlib.Core.Path.{_∙_}
 use mathlib.Core.Bool.{_&&_, not}
 use lib.Dec.{leb}
 use lib.ListN.{getD}
-use Rattle.rules.specs.Settings.{isAddress, isNumber, isOctet, within, linkMost}
+use Rattle.rules.specs.Settings.{linkMost, addresses, isAddress, isNumber, isOctet, within}
+use Rattle.table_record.specs.Record.{addressAt, currentAt, timeAt, lastTtlAt, linksAt}
 use Rattle.table_record_check.proofs.fields_ok.Statement.{statement}
 use Rattle.table_record_check.proofs.fields_ok.Tie as tie
 
+abbrev from-own : tie.After-is-own → tie.Start
+from-own c = c .before .before .before .before
+
 returns : tie.Need-returns
 returns c =
-    let a = c .before .before .before .before .before .before .before .before .args in
+    let o = c .before .before .before .before in
+    let a = from-own o .args in
     let row = a .row .now in
-    let address = getD row 0 0 in
-    let n = getD row 4 0 in
-    let own = c .before .before .before .before .is-own in
+    let address = getD row addressAt 0 in
+    let n = getD row linksAt 0 in
+    let own = o .is-own in
     record {
-      small = λ h. ltb-true address 4294967296 (and-left (isAddress address) _ (and-right (leb (a .low) address) _ h));
-      few = λ h. leb-true n linkMost (and-right (leb 1 n) _ (and-right (isOctet (getD row 3 0)) _ (and-right (leb (getD row 2 0) (a .limits .time)) _
-          (and-right (isNumber (getD row 1 0)) _ (and-right (not (own .result)) _ (and-right (isAddress address) _ (and-right (leb (a .low) address) _ h)))))));
+      small = λ h. ltb-true address addresses (and-left (isAddress address) _ (and-right (leb (a .low) address) _ h));
+      few = λ h. leb-true n linkMost (and-right (leb 1 n) _ (and-right (isOctet (getD row lastTtlAt 0)) _ (and-right (leb (getD row timeAt 0) (a .limits .time)) _
+          (and-right (isNumber (getD row currentAt 0)) _ (and-right (not (own .result)) _ (and-right (isAddress address) _ (and-right (leb (a .low) address) _ h)))))));
       tests = λ κ time d.
           let mine = own .ensures ∙ d .own address in
-          λ i. leb (a .low) address && (isAddress address && (not (mine i) && (isNumber (getD row 1 0) && (leb (getD row 2 0) (d .time i) && (isOctet (getD row 3 0) && within 1 linkMost n)))));
+          λ i. leb (a .low) address && (isAddress address && (not (mine i) && (isNumber (getD row currentAt 0) && (leb (getD row timeAt 0) (d .time i) && (isOctet (getD row lastTtlAt 0) && within 1 linkMost n)))));
     }
 
 pub fields-ok-spec : {M : Type 1} → statement M

@@ -1,3 +1,4 @@
+-- `is_own` compares the address with each own one.
 use lib.Dec.{eqb}
 use Rattle.table_record_check.proofs.Checks.{or-end}
 use Rattle.table_record_check.proofs.is_own.Statement.{statement}

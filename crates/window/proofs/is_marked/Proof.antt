@@ -2,11 +2,12 @@
 use mathlib.Core.Path.{refl}
 use borrow.Author.Needs.{needs}
 use Rattle.window.specs.Window.{bit}
+use Rattle.window.specs.Marks.{wordOf}
 use Rattle.window.proofs.is_marked.Statement.{statement}
 use Rattle.window.proofs.is_marked.Tie as tie
 
 returns : tie.Need-returns
-unfolding bit
+unfolding bit wordOf
 returns c = refl
 
 pub is-marked-spec : {M : Type 1} → statement M

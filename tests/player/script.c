@@ -1,0 +1,103 @@
+#include "script.h"
+
+#include "words.h"
+
+static uint64_t any_number(struct words *w) { return read_number(w, UINT64_MAX); }
+static uint32_t address(struct words *w) { return (uint32_t)read_number(w, UINT32_MAX); }
+
+static void read_size(struct words *w, struct line *l) { l->capacity = any_number(w); }
+static void read_cells(struct words *w, struct line *l) { l->cells = (size_t)read_number(w, BUFFER_CELLS); }
+
+static void read_make(struct words *w, struct line *l)
+{
+    l->settings.version = any_number(w);
+    l->settings.window = any_number(w);
+    l->settings.timeout = any_number(w);
+    l->settings.purge = any_number(w);
+    l->settings.capacity = any_number(w);
+    l->interfaces.used = any_number(w);
+    for (int i = 0; i < BATMAN_INTERFACES; i++) {
+        l->interfaces.row[i].own = address(w);
+        l->interfaces.row[i].broadcast = address(w);
+        l->interfaces.row[i].first = (uint16_t)read_number(w, UINT16_MAX);
+    }
+}
+
+/* What receive and own packet end with: OUTPUT and octets. */
+static void read_output_and_octets(struct words *w, struct line *l)
+{
+    l->room = (size_t)read_number(w, OUTPUT_MOST);
+    l->length = read_octets(w, l->octets, OCTETS_MOST);
+}
+
+static void read_receive(struct words *w, struct line *l)
+{
+    l->interface = any_number(w);
+    l->address = address(w);
+    l->time = any_number(w);
+    read_output_and_octets(w, l);
+}
+
+static void read_own(struct words *w, struct line *l)
+{
+    l->interface = any_number(w);
+    l->time = any_number(w);
+    l->ttl = (uint8_t)read_number(w, UINT8_MAX);
+    l->gateway = (uint8_t)read_number(w, UINT8_MAX);
+    l->port = (uint16_t)read_number(w, UINT16_MAX);
+    read_output_and_octets(w, l);
+}
+
+static void read_sweep(struct words *w, struct line *l) { l->time = any_number(w); }
+static void read_best(struct words *w, struct line *l) { l->address = address(w); }
+
+static void read_list(struct words *w, struct line *l)
+{
+    l->address = address(w);
+    l->room = (size_t)read_number(w, ROWS_MOST);
+}
+
+static void read_check(struct words *w, struct line *l)
+{
+    l->version = any_number(w);
+    l->length = read_octets(w, l->octets, OCTETS_MOST);
+}
+
+static void read_poke(struct words *w, struct line *l)
+{
+    l->index = (size_t)read_number(w, BUFFER_CELLS - 1);
+    l->value = any_number(w);
+}
+
+static void read_dump(struct words *w, struct line *l) { (void)w, (void)l; }
+
+static const struct {
+    const char *name;
+    enum line_kind kind;
+    void (*read)(struct words *w, struct line *l);
+} calls[] = {
+    {"size", SIZE, read_size},    {"cells", CELLS, read_cells}, {"make", MAKE, read_make}, {"receive", RECEIVE, read_receive},
+    {"own", OWN, read_own},       {"sweep", SWEEP, read_sweep}, {"best", BEST, read_best}, {"list", LIST, read_list},
+    {"check", CHECK, read_check}, {"poke", POKE, read_poke},    {"dump", DUMP, read_dump},
+};
+
+/* The kind of a line that begins with this word, its arguments read. */
+static enum line_kind read_call(struct word name, struct words *w, struct line *l)
+{
+    for (size_t i = 0; i < sizeof calls / sizeof *calls; i++)
+        if (word_is(name, calls[i].name)) {
+            calls[i].read(w, l);
+            return w->unreadable || next_word(w).length > 0 ? UNREADABLE : calls[i].kind;
+        }
+    return UNREADABLE;
+}
+
+void read_line(const char *text, size_t length, struct line *l)
+{
+    struct words w = {text, text + length, false};
+    l->kind = UNREADABLE;
+    if (length > LINE_MOST)
+        return;
+    struct word first = next_word(&w);
+    l->kind = first.length == 0 || first.text[0] == '#' ? NOTHING : read_call(first, &w, l);
+}
