@@ -3,6 +3,7 @@ use call_receive_arrival::Arrival;
 use packet_check::packet_fault;
 use packet_codec::message::read;
 use rules::Ogm;
+use rules::limits::INTERFACES_MOST;
 use table_layout::OWN_0;
 use table_layout::OWN_1;
 use table_layout::OWN_2;
@@ -10,7 +11,6 @@ use table_layout::OWN_3;
 use table_layout::TIME;
 use table_layout::USED;
 use table_layout::VERSION;
-use table_record::INTERFACES;
 use wire::Fault;
 use wire::refusal;
 use wire::refusals::NOT_IN_USE;
@@ -40,7 +40,7 @@ pub fn read_arrival(packet: &[u8], sender: u32, interface: u64, time: u64) -> Ar
 {
     let h = read(packet);
     let ogm = Ogm {
-        link: sender as u64 * INTERFACES + interface,
+        link: sender as u64 * INTERFACES_MOST + interface,
         sequence: h.sequence,
         ttl: h.ttl,
         time,

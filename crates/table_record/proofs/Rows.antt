@@ -17,11 +17,11 @@ use Rattle.lists.proofs.Tests.{and-left, and-right, both, and-at}
 use Rattle.cells.proofs.Areas.{length-area}
 use Rattle.cells.proofs.Lent.{cells-from}
 use Rattle.window.specs.Window.{numbers}
-use Rattle.rules.specs.Settings.{Config, linkMost, linkCells, recordHeadCells, recordCells, octets, addresses, isAddress}
+use Rattle.rules.specs.Settings.{Config, linkMost, linkCells, recordHeadCells, linkAreaCells, recordCells, octets, addresses, isAddress}
 use Rattle.rules.specs.Calls.{neighbourOf, pairs}
 use Rattle.rules.specs.Table.{TableRecord}
 use Rattle.rules.specs.WellFormed.{linkTests, recordTests}
-use Rattle.table_record.specs.Links.{linkAreaCells, linkRow, linkArea, linksFrom}
+use Rattle.table_record.specs.Links.{linkRow, linkArea, linksFrom}
 use Rattle.table_record.specs.Record.{addressAt, currentAt, timeAt, lastTtlAt, linksAt, bestAt, fieldsOf, encodeRecord, linksPart, linksOf, decodeRecord, unusedLinks, recordOk, Held}
 use Rattle.table_record.proofs.Links.{link-wide, links-trip, links-area, links-rest, length-links}
 
