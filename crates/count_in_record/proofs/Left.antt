@@ -4,9 +4,9 @@ use mathlib.Core.Bool.{Bool, true, false, cond}
 use mathlib.Core.List.{List, []}
 use Prim.Native.Nat.{ℕ, _≤_, _<_}
 use native.Mathlib.Omega.{arith}
-use lib.Dec.{leb}
+use lib.Dec.{eqb}
 use lib.ListN.{length, getD}
-use borrow.Author.Tests.{ltb-true, leb-true}
+use borrow.Author.Tests.{ltb-true, leb-true, eq-eqb}
 use Rattle.lists.specs.Keyed.{rising, put, mapValues}
 use Rattle.lists.proofs.Tests.{by-test}
 use Rattle.lists.proofs.Rising.{rising-in, rising-out, rising-keep, rising-put, rising-mapValues}
@@ -45,7 +45,18 @@ held-encoded e hc ht few hb hr =
       rises = ap (λ (x : ℕ × TableRecord). rising (x .1 .links)) (record-back e few) ∙ hr;
     }
 
--- a message of typed fields, by the link of an address
+-- ---- the first record
+
+module _ (κ : Config) (m : Ogm) (small : m .sequence < numbers) where
+  -- its only link is best
+  pub first-best : eqb (firstRecord κ m .best) (m .link) ≡ true
+  first-best = ap (λ (x : TableRecord). eqb (x .best) (m .link)) (sym (first-is κ m small)) ∙ eq-eqb (m .link) (m .link) refl
+
+  pub first-back : (a : ℕ) → decodeRecord (encodeRecord (a, firstRecord κ m)) ≡ (a, firstRecord κ m)
+  first-back a = record-back (a, firstRecord κ m) (subst (λ (x : TableRecord). length (x .links) ≤ linkMost) (first-is κ m small) (omega arith))
+
+-- ---- a message of typed fields, by the link of an address
+
 module _ (κ : Config) (m : Ogm) (ttl : m .ttl < octets) (link : isAddress (neighbourOf (m .link)) ≡ true) where
   link-small : m .link < pairs
   link-small = ltb-true (m .link) pairs (small-pair (m .link) ∙ link)

@@ -1,40 +1,37 @@
 -- A record written over its cells, or put in at its place: the cells are those of the table that holds it. Assumes nothing.
-use mathlib.Core.Path.{_≡_, refl, sym, ap, _∙_}
+use mathlib.Core.Path.{_≡_, refl, sym, ap, _∙_, subst}
 use mathlib.Core.Bool.{Bool, true, false, cond}
 use mathlib.Core.List.{List, [], _∷_, _++_, map, append-assoc, append-nil}
 use Prim.Native.Nat.{ℕ, _+_, _-_, _*_, _≤_, _<_}
 use native.Mathlib.Omega.{arith}
-use lib.Dec.{leb}
 use lib.ListN.{length, take, drop, set, getD, length-append, length-drop, length-set, length-map}
 use lib.Seq.{length-take-le}
 use borrow.Rule.Slice.PartMut.{putMid, put-same}
 use Rattle.lists.specs.Keyed.{put}
 use Rattle.cells.specs.Area.{putIn, written, insertAt}
-use Rattle.cells.specs.Pairs.{pairRow, pairCells, pairArea}
+use Rattle.cells.specs.Pairs.{pairArea}
 use Rattle.cells.specs.Find.{IsAt}
-use Rattle.cells.proofs.Areas.{length-area, take-more, more-back, write-row, put-row}
+use Rattle.cells.proofs.Areas.{length-area, length-insert, take-more, more-back, write-row, put-row}
 use Rattle.cells.proofs.Lent.{part-is, part-length, tail-back}
-use Rattle.cells.proofs.Pairs.{pair-wide}
 use Rattle.cells.proofs.Trips.{length-decoded}
 use Rattle.cells.proofs.Search.{belowKey, aboveKey, Among, among, apart, put-among, put-apart}
-use Rattle.rules.specs.Settings.{interfaceMost, neighbourMost, linkMost, interfaceCells, recordCells}
+use Rattle.rules.specs.Settings.{neighbourMost, recordCells}
 use Rattle.rules.specs.declared.Ogm.{Ogm}
 use Rattle.rules.specs.Table.{TableRecord, TableState, nextRecord}
 use Rattle.table_record.specs.Record.{encodeRecord, decodeRecord}
 use Rattle.table_record.proofs.Rows.{length-record}
 use Rattle.table_layout.specs.Layout.{capacityAt, recordsAt, recordsFrom, recordPart}
-use Rattle.table_layout.specs.Interfaces.{rowsWith, encodeInterface}
 use Rattle.table_layout.specs.Cells.{headOf, interfaceArea, recordArea, encode, decode}
 use Rattle.table_layout.specs.Facts.{recordAt}
 use Rattle.lists.proofs.Rising.{rising-out}
 use Rattle.table_changes.specs.Changes.{withRecords}
-use Rattle.table_layout.proofs.Interfaces.{interface-wide}
-use Rattle.table_layout.proofs.Parts.{encoded-size, records-lent}
+use Rattle.table_layout.proofs.Parts.{wide-interfaces, wide-rows, encoded-size, records-lent}
 use Rattle.table_changes.proofs.Parts.{records-back}
 use Rattle.table_changes.proofs.Sent.{run-back}
 use Rattle.rules.proofs.WellFormed.{Wf, parts}
-use Rattle.count_in_record.specs.Counting.{Counted}
-use Rattle.table_originators.specs.Originators.{heldBy, recordPlace, Stands, Missing, countedAt, CountedIn}
+use Rattle.count_in_record.specs.declared.Heard.{Heard}
+use Rattle.count_in_record.specs.Counting.{isTaken, Answers, HeardIn}
+use Rattle.table_originators.specs.Originators.{heldBy, recordPlace, Stands, Missing, standingAt, countedAt, HeardAt}
 
 abbrev Entry : Type 0
 Entry = ℕ × TableRecord
@@ -46,9 +43,6 @@ records-count c = length-decoded decodeRecord recordCells (getD c recordsAt 0) (
 capacity-is : (c : List ℕ) → decode c .config .settings .capacity ≡ getD c capacityAt 0
 unfolding decode
 capacity-is c = refl
-
-length-insert : (i : ℕ) (e : Entry) (l : List Entry) → i ≤ length l → length (insertAt i e l) ≡ length l + 1
-length-insert i e l h = omega (arith, length-append (take i l) (e ∷ drop i l), length-take-le i l h, length-drop i l)
 
 -- the place of an entry between others
 key-between : (xs ys : List Entry) (e : Entry) → getD (map (λ (e : Entry). e .0) (xs ++ (e ∷ ys))) (length xs) 0 ≡ e .0
@@ -75,9 +69,8 @@ module _ (s : TableState) (few : length (s .records) ≤ s .config .settings .ca
 
   length-front : (n : ℕ) → length (front n) ≡ recordsFrom
   length-front n =
-      let f : length (interfaceArea s) ≡ 20 = length-area encodeInterface interfaceCells interface-wide interfaceMost (rowsWith (s .sends) 0 (s .config .interfaces)) in
-      let r : length (pairArea neighbourMost (s .rows)) ≡ 64 = length-area pairRow pairCells pair-wide neighbourMost (s .rows) in
-      omega (arith, length-append (take recordsAt (headOf s) ++ (n ∷ [])) (interfaceArea s ++ pairArea neighbourMost (s .rows)), length-append (interfaceArea s) (pairArea neighbourMost (s .rows)))
+      omega
+      (arith, wide-interfaces s, wide-rows s, length-append (take recordsAt (headOf s) ++ (n ∷ [])) (interfaceArea s ++ pairArea neighbourMost (s .rows)), length-append (interfaceArea s) (pairArea neighbourMost (s .rows)))
 
   fronted : (es : List Entry) → encode (withRecords es s) ≡ front (length es) ++ (area es ++ [])
   unfolding encode
@@ -150,22 +143,24 @@ module _ (c : List ℕ) (o i : ℕ) where
     lent-is : take (recordPlace i + recordCells - recordPlace i) (drop (recordPlace i) c) ≡ recordAt c i
     lent-is = part-is c (recordPlace i) recordCells (s .holds .fits)
 
-    pub counted-in : (m : Ogm) (y : List ℕ) (r : Bool) → Counted (decode c .config) m (take (recordPlace i + recordCells - recordPlace i) (drop (recordPlace i) c)) y r
-        → CountedIn c (putMid (recordPlace i) (recordPlace i + recordCells - recordPlace i) c y) o i m r
-    counted-in m y r w =
-        let x = countedAt c i m in
-        let e : y ≡ cond r (encodeRecord (o, x)) (recordAt c i) =
-        w .cells ∙ ap (λ (l : List ℕ). cond r (encodeRecord (decodeRecord l .0, nextRecord (decode c .config) m (decodeRecord l .1))) l) lent-is
-        ∙ ap (λ (k : ℕ). cond r (encodeRecord (k, x)) (recordAt c i)) (s .key) in
+    -- what a message leaves of it
+    pub heard-in : (m : Ogm) (b : Bool) (y : List ℕ) (r : Heard) → HeardIn (decode c .config) m b (take (recordPlace i + recordCells - recordPlace i) (drop (recordPlace i) c)) y r
+        → HeardAt c (putMid (recordPlace i) (recordPlace i + recordCells - recordPlace i) c y) o i m b r
+    heard-in m b y r w =
+        let κ = decode c .config in
         let n : recordPlace i + recordCells - recordPlace i ≡ recordCells = omega arith in
+        let taken : Bool = isTaken κ m b (standingAt c i) in
+        let e : y ≡ cond taken (encodeRecord (o, countedAt c i m)) (recordAt c i) =
+        w .cells ∙ ap (λ (l : List ℕ). cond (isTaken κ m b (decodeRecord l .1)) (encodeRecord (decodeRecord l .0, nextRecord κ m (decodeRecord l .1))) l) lent-is
+        ∙ ap (λ (k : ℕ). cond taken (encodeRecord (k, countedAt c i m)) (recordAt c i)) (s .key) in
         record {
-          taken = w .taken ∙ ap (λ (l : List ℕ). leb (length (nextRecord (decode c .config) m (decodeRecord l .1) .links)) linkMost) lent-is;
-          cells = ap (λ (k : ℕ). putMid (recordPlace i) k c y) n ∙ ap (putMid (recordPlace i) recordCells c) e ∙ go r;
+          answers = subst (λ (l : List ℕ). Answers κ m b (decodeRecord l .1) r) lent-is (w .answers);
+          cells = ap (λ (k : ℕ). putMid (recordPlace i) k c y) n ∙ ap (putMid (recordPlace i) recordCells c) e ∙ go taken;
         }
       where
-        go : (r : Bool) → putMid (recordPlace i) recordCells c (cond r (encodeRecord (o, countedAt c i m)) (recordAt c i)) ≡ encode (cond r (with (countedAt c i m)) (decode c))
+        go : (t : Bool) → putMid (recordPlace i) recordCells c (cond t (encodeRecord (o, countedAt c i m)) (recordAt c i)) ≡ cond t (encode (with (countedAt c i m))) c
         go true = written-record (countedAt c i m)
-        go false = put-same (recordPlace i) recordCells c ∙ sym (s .holds .knows .cells)
+        go false = put-same (recordPlace i) recordCells c
 
   -- at the place of one that it lacks
   module _ (s : Missing c o i) where

@@ -1,23 +1,26 @@
 -- The originators' records in a table's cells.
 use Prim.Native.Nat.{ℕ, _+_, _*_, _≤_}
 use mathlib.Core.Path.{_≡_}
-use mathlib.Core.Bool.{Bool, cond}
+use mathlib.Core.Bool.{Bool, true, cond}
 use mathlib.Core.List.{List, map}
 use mathlib.Core.Option.{none, some}
-use lib.Dec.{leb}
 use lib.ListN.{length}
 use Rattle.lists.specs.Keyed.{lookup, put}
 use Rattle.cells.specs.Find.{IsAt, IsPlace}
 use Rattle.cells.specs.declared.Found.{Found}
 use Rattle.cells.specs.declared.Found.the-variants.{At, Place}
-use Rattle.rules.specs.Settings.{linkMost, recordCells}
 use Rattle.rules.specs.declared.Ogm.{Ogm}
-use Rattle.rules.specs.Table.{TableRecord, TableState, nextRecord}
+use Rattle.rules.specs.declared.Route.{Route}
+use Rattle.rules.specs.Settings.{recordCells}
+use Rattle.rules.specs.Rules.{routeOf}
+use Rattle.rules.specs.Table.{TableRecord, TableState, table, firstRecord, nextRecord}
 use Rattle.table_record.specs.Record.{decodeRecord, Held}
 use Rattle.table_layout.specs.Layout.{recordsFrom}
 use Rattle.table_layout.specs.Cells.{encode, decode}
 use Rattle.table_layout.specs.Facts.{Knows, recordAt}
 use Rattle.table_changes.specs.Changes.{withRecords}
+use Rattle.count_in_record.specs.declared.Heard.{Heard}
+use Rattle.count_in_record.specs.Counting.{isTaken, Answers}
 
 -- the originators held, in table order
 abbrev pub heldBy : TableState → List ℕ
@@ -50,11 +53,20 @@ abbrev pub RecordFound : List ℕ → (o : ℕ) → Found → Type 0
 RecordFound c o (At i) = Stands c o i
 RecordFound c o (Place i) = Missing c o i
 
--- the record of o once a message is counted in it
-abbrev pub countedAt : List ℕ → (i : ℕ) → Ogm → TableRecord
-countedAt c i m = nextRecord (decode c .config) m (decodeRecord (recordAt c i) .1)
+-- the record that stands at place i, and the one that it becomes once a message is counted in it
+abbrev pub standingAt : List ℕ → (i : ℕ) → TableRecord
+standingAt c i = decodeRecord (recordAt c i) .1
 
--- the cells d are those of the table with that record; or, exactly where more than 8 links would have marks or be best, nothing changes
-pub record CountedIn (c d : List ℕ) (o i : ℕ) (m : Ogm) (answer : Bool) : Type 0 where
-  pub taken : answer ≡ leb (length (countedAt c i m .links)) linkMost
-  pub cells : d ≡ encode (cond answer (withRecords (put o (countedAt c i m) (decode c .records)) (decode c)) (decode c))
+abbrev pub countedAt : List ℕ → (i : ℕ) → Ogm → TableRecord
+countedAt c i m = nextRecord (decode c .config) m (standingAt c i)
+
+-- what is answered of a message to the record of o, and the cells d that it leaves: where it is taken, those of the table with the next record
+pub record HeardAt (c d : List ℕ) (o i : ℕ) (m : Ogm) (bidirectional : Bool) (r : Heard) : Type 0 where
+  pub answers : Answers (decode c .config) m bidirectional (standingAt c i) r
+  pub cells : d ≡ cond (isTaken (decode c .config) m bidirectional (standingAt c i)) (encode (withRecords (put o (countedAt c i m) (decode c .records)) (decode c))) c
+
+-- the first counted message of o makes its record: the cells d have it, the message's link is best, and r is the route
+pub record Made (c d : List ℕ) (o : ℕ) (m : Ogm) (r : Route) : Type 0 where
+  pub cells : d ≡ encode (withRecords (put o (firstRecord (decode c .config) m) (decode c .records)) (decode c))
+  pub best : table .isBest (decode c .config) (firstRecord (decode c .config) m) (m .link) ≡ true
+  pub route : r ≡ routeOf table (decode c .config) (some (firstRecord (decode c .config) m))

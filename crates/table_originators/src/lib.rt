@@ -1,24 +1,38 @@
-// The originators' records in a table's cells: found by address, counted in, and made.
+// The originators' records in a table's cells: found by address, told of a message, and made.
 use cells::Found;
 use cells::find;
 use cells_moves::put_in;
-use count_in_record::count_message;
+use count_in_record::Heard;
 use count_in_record::first_record;
+use count_in_record::hear;
+use rules::Ogm;
+use rules::Policy;
+use rules::Route;
 use table_layout::RECORDS;
 use table_layout::RECORDS_FROM;
 use table_layout::WINDOW;
 use table_record::WIDTH;
+use table_record::route_of;
 ghost use mathlib.Core.Path.{_≡_};
+ghost use mathlib.Core.Bool.{true};
 ghost use Prim.Native.Nat.{ℕ, _<_};
 ghost use lib.ListN.{getD};
-ghost use Rattle.lists.specs.Keyed.{put};
-ghost use Rattle.rules.specs.Table.{firstRecord};
+ghost use Rattle.rules.specs.Settings.{Follows, Bounded, isAddress};
+ghost use Rattle.rules.specs.Calls.{neighbourOf};
 ghost use Rattle.table_layout.specs.Layout.{capacityAt, recordsAt};
-ghost use Rattle.table_layout.specs.Cells.{encode, decode};
+ghost use Rattle.table_layout.specs.Cells.{decode};
 ghost use Rattle.table_layout.specs.Facts.{Knows, recordAt};
-ghost use Rattle.count_in_record.specs.Counting.{ogm};
-ghost use Rattle.table_changes.specs.Changes.{withRecords};
-ghost use Rattle.table_originators.specs.Originators.{Holds, Stands, Missing, RecordFound, CountedIn};
+ghost use Rattle.table_originators.specs.Originators.{Holds, Stands, Missing, RecordFound, HeardAt, Made};
+
+// What counting is told of the table's settings.
+pub fn policy_of(cells: &[u64]) -> Policy
+    requires { ⌜ Knows (now cells) ⌝ }
+    ensures { λ r. ⌜ Follows (decode (now (cells .entry)) .config) r × Bounded r ⌝ }
+{
+    Policy {
+        window: cells[WINDOW],
+    }
+}
 
 // Where an originator's record stands among those held, or the place where it would go.
 pub fn find_record(cells: &[u64], originator: u32) -> Found
@@ -43,48 +57,28 @@ pub fn record_at(cells: &[u64], i: usize) -> &[u64]
     &cells[at..end]
 }
 
-// Counts a message in the record at place i. False, and nothing changes, where more than 8 links would have marks or be best.
-pub fn count_record(
-    cells: &mut [u64],
-    i: usize,
-    link: u64,
-    sequence: u16,
-    ttl: u8,
-    time: u64,
-) -> bool
-    requires { ⌜ Holds (now cells) i ⌝ }
-    ensures { λ r. ⌜ ((o : ℕ) → Stands (now (cells .entry)) o i → CountedIn (now (cells .entry)) (now (cells .exit)) o i (ogm link sequence ttl time) r) ⌝ }
+// What a message does to the record at place i, and what is answered of it.
+pub fn hear_at(cells: &mut [u64], i: usize, m: Ogm, bidirectional: bool) -> Heard
+    requires { ⌜ Holds (now cells) i × (isAddress (neighbourOf (m .link)) ≡ true) ⌝ }
+    ensures { λ r. ⌜ ((o : ℕ) → Stands (now (cells .entry)) o i → HeardAt (now (cells .entry)) (now (cells .exit)) o i m bidirectional r) ⌝ }
 {
-    let w = cells[WINDOW];
+    let p = policy_of(cells);
     let at = RECORDS_FROM + i * WIDTH;
     let end = at + WIDTH;
-    count_message(&mut cells[at..end], w, link, sequence, ttl as u64, time)
+    hear(&mut cells[at..end], p, m, bidirectional)
 }
 
-// Puts the record that an originator's first counted message makes in at its place i. Only records that are held move.
-pub fn make_record(
-    cells: &mut [u64],
-    i: usize,
-    originator: u32,
-    link: u64,
-    sequence: u16,
-    ttl: u8,
-    time: u64,
-)
-    requires { ⌜ Missing (now cells) originator i × (getD (now cells) recordsAt 0 < getD (now cells) capacityAt 0) ⌝ }
-    ensures { λ _. ⌜ now (cells .exit) ≡ encode (withRecords (put originator (firstRecord (decode (now (cells .entry)) .config) (ogm link sequence ttl time)) (decode (now (cells .entry)) .records)) (decode (now (cells .entry)))) ⌝ }
+// Puts the record that an originator's first counted message makes in at its place i, and answers its route. Only records that are held move.
+pub fn make_record(cells: &mut [u64], i: usize, originator: u32, m: Ogm) -> Route
+    requires { ⌜ Missing (now cells) originator i × (getD (now cells) recordsAt 0 < getD (now cells) capacityAt 0) × (isAddress (neighbourOf (m .link)) ≡ true) ⌝ }
+    ensures { λ r. ⌜ Made (now (cells .entry)) (now (cells .exit)) originator m r ⌝ }
 {
+    let p = policy_of(cells);
     let n = cells[RECORDS];
     let end = RECORDS_FROM + (n as usize + 1) * WIDTH;
     let mut row = [0u64; WIDTH];
-    first_record(
-        &mut row,
-        originator as u64,
-        link,
-        sequence,
-        ttl as u64,
-        time,
-    );
+    first_record(&mut row, originator as u64, m);
     put_in(&mut cells[RECORDS_FROM..end], i * WIDTH, &row);
     cells[RECORDS] = n + 1;
+    route_of(&row, p.window as u32)
 }

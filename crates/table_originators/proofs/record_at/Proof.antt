@@ -1,4 +1,4 @@
--- `originators::record_at` meets its contract. Assumes nothing.
+-- The row lent is the cells of record i.
 use borrow.Author.Needs.{needs}
 use Rattle.cells.proofs.Lent.{part-is}
 use Rattle.rules.specs.Settings.{recordCells}
