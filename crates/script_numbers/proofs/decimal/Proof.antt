@@ -1,3 +1,4 @@
+-- `decimal` reads a word as the definition does: what is left of the word, read on from the number so far, is the word read whole.
 use borrow.Author.Needs.{needs}
 use mathlib.Core.Path.{_≡_, sym, _∙_}
 use Prim.Native.Nat.{_-_, _≤_}

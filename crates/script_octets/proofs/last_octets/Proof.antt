@@ -1,3 +1,4 @@
+-- `last_octets`: the octets of the last word, or that it is missing or a word follows.
 use borrow.Author.Needs.{needs}
 use Rattle.script_octets.proofs.Laws.{none-last, last-read}
 use borrow.Author.Tests.{not-false, not-true}

@@ -1,3 +1,4 @@
+-- `pair`: the octet of two digits, or that one of them is none.
 use borrow.Author.Needs.{needs}
 use mathlib.Core.Path.{_≡_, refl, sym, _∙_}
 use native.Mathlib.Omega.{arith}

@@ -1,3 +1,4 @@
+-- `pairs`: after i turns the first i octets are those that the word says.
 use borrow.Author.Needs.{needs}
 use mathlib.Core.Path.{_≡_, refl, sym, _∙_}
 use mathlib.Core.Logic.{⊎-elim}
