@@ -8,14 +8,10 @@ use rules::Settings;
 use rules::Swept;
 use rules::Written;
 ghost use mathlib.Core.Path.{_≡_};
-ghost use mathlib.Core.Bool.{true};
-ghost use mathlib.Core.List.{[]};
 ghost use Rattle.wire.specs.Check.{packetCheck};
 ghost use Rattle.rules.specs.Calls as C;
-ghost use Rattle.rules.specs.WellFormed.{typed};
-ghost use Rattle.table_layout.specs.Calls.{callOn, Promised};
+ghost use Rattle.table_layout.specs.Calls.{Promised};
 ghost use Rattle.call_make.specs.Make.{makeArgs, neededFor};
-ghost use Rattle.table_changes.specs.Performed.{Performed};
 ghost use Rattle.call_receive_arrival.specs.Receiving.{argsOf};
 ghost use Rattle.call_own_packet_checks.specs.OwnPacket.{args};
 
@@ -45,7 +41,7 @@ pub extern "C" fn batman_cells_needed(capacity: u64) -> u64
 // Makes a fresh table in all the cells given, or answers 12.
 #[no_mangle]
 pub extern "C" fn batman_make(cells: &mut [u64], settings: Settings, interfaces: Interfaces) -> u64
-    ensures { λ r. ⌜ (callOn (now (cells .entry)) (C.make (makeArgs settings (interfaces .row) (interfaces .used))) .reply ≡ C.answered (C.made r)) × (now (cells .exit) ≡ callOn (now (cells .entry)) (C.make (makeArgs settings (interfaces .row) (interfaces .used))) .cells) ⌝ }
+    ensures { λ r. ⌜ Promised (now (cells .entry)) (C.make (makeArgs settings (interfaces .row) (interfaces .used))) (C.answered (C.made r)) (now (cells .exit)) ⌝ }
 {
     let rows = interfaces.row;
     call_make::make(cells, settings, rows, interfaces.used)
@@ -61,8 +57,7 @@ pub extern "C" fn batman_receive(
     time: u64,
     out: &mut [u8],
 ) -> Received
-    ensures { λ r. ⌜ Performed (now (cells .entry)) (C.receive (argsOf (now (packet .entry)) sender interface time (now (out .entry)))) (C.received r) (now (out .exit)) (now (cells .exit))
-        × (typed (C.receive (argsOf (now (packet .entry)) sender interface time (now (out .entry)))) ≡ true) ⌝ }
+    ensures { λ r. ⌜ Promised (now (cells .entry)) (C.receive (argsOf (now (packet .entry)) sender interface time (now (out .entry)))) (C.answeredWriting (C.received r) (now (out .exit))) (now (cells .exit)) ⌝ }
 {
     call_receive::receive(cells, packet, sender, interface, time, out)
 }
@@ -79,8 +74,7 @@ pub extern "C" fn batman_own_packet(
     hna: &[u8],
     out: &mut [u8],
 ) -> Written
-    ensures { λ r. ⌜ Performed (now (cells .entry)) (C.own (args interface time ttl gateway port (now (hna .entry)) (now (out .entry)))) (C.written r) (now (out .exit)) (now (cells .exit))
-        × (typed (C.own (args interface time ttl gateway port (now (hna .entry)) (now (out .entry)))) ≡ true) ⌝ }
+    ensures { λ r. ⌜ Promised (now (cells .entry)) (C.own (args interface time ttl gateway port (now (hna .entry)) (now (out .entry)))) (C.answeredWriting (C.written r) (now (out .exit))) (now (cells .exit)) ⌝ }
 {
     call_own_packet::own_packet(cells, interface, time, ttl, gateway, port, hna, out)
 }
@@ -88,7 +82,7 @@ pub extern "C" fn batman_own_packet(
 // Removes the records whose time is more than the purge timeout ago.
 #[no_mangle]
 pub extern "C" fn batman_sweep(cells: &mut [u64], time: u64) -> Swept
-    ensures { λ r. ⌜ Performed (now (cells .entry)) (C.sweep time) (C.swept r) [] (now (cells .exit)) × (typed (C.sweep time) ≡ true) ⌝ }
+    ensures { λ r. ⌜ Promised (now (cells .entry)) (C.sweep time) (C.answered (C.swept r)) (now (cells .exit)) ⌝ }
 {
     call_sweep::sweep(cells, time)
 }
@@ -96,9 +90,9 @@ pub extern "C" fn batman_sweep(cells: &mut [u64], time: u64) -> Swept
 // The best link to an originator.
 #[no_mangle]
 pub extern "C" fn batman_best(cells: &[u64], originator: u32) -> Asked
-    ensures { λ r. ⌜ (callOn (now (cells .entry)) (C.ask originator) .reply ≡ C.answered (C.asked r)) × (callOn (now (cells .entry)) (C.ask originator) .cells ≡ now (cells .entry)) ⌝ }
+    ensures { λ r. ⌜ Promised (now (cells .entry)) (C.ask originator) (C.answered (C.asked r)) (now (cells .entry)) ⌝ }
 {
-    call_best::best::best(cells, originator)
+    call_best::best(cells, originator)
 }
 
 // Fills the caller's rows, one for each link held to an originator, in table order. Further rows stay as they are.

@@ -1,28 +1,23 @@
--- The best question by the rules. Assumes nothing.
-use mathlib.Core.Path.{_≡_, sym, ap, _∙_}
+-- The ways through the best question's call. Assumes nothing.
+use mathlib.Core.Path.{_≡_, refl, sym}
 use mathlib.Core.List.{List}
 use mathlib.Core.Bool.{true, false}
 use Prim.Native.Nat.{ℕ}
 use Rattle.lists.specs.Keyed.{lookup}
-use Rattle.rules.specs.declared.Route.{Route}
 use Rattle.rules.specs.Calls.{ask, asked, answered, noRoute, refusal}
 use Rattle.rules.specs.Rules.{routeOf, answerBest, step}
 use Rattle.rules.specs.Table.{table}
-use Rattle.table_layout.specs.Cells.{configIn, recordsIn, decode, wellFormed}
-use Rattle.table_layout.specs.Calls.{Done, callOn}
+use Rattle.table_layout.specs.Calls.{Performed}
+use Rattle.table_layout.specs.Cells.{decode, wellFormed}
 use Rattle.table_layout.proofs.Encoding.{encode-decode}
-use Rattle.table_layout.proofs.Calls.{goes-on, turned-away}
+use Rattle.table_changes.proofs.Performing.{not-asked, does}
+use Rattle.call_best.specs.Best.{askedAs}
 
 module _ (c : List ℕ) (o : ℕ) where
-  pub answer-by : wellFormed c ≡ true → callOn c (ask o) ≡ record { reply = answered (asked (record { number = 0; route = routeOf table (configIn c) (lookup o (recordsIn c)) })); cells = c }
-  unfolding step answerBest decode
-  answer-by h = goes-on c (ask o) h ∙ (λ i. record { reply = answered (asked (record { number = 0; route = routeOf table (configIn c) (lookup o (recordsIn c)) })); cells = encode-decode c h i })
-
-  pub no-answer : wellFormed c ≡ false → callOn c (ask o) ≡ record { reply = answered (asked (record { number = 1; route = noRoute })); cells = c }
+  pub ill-formed : wellFormed c ≡ false → Performed c (ask o) (answered (asked (askedAs 1 noRoute))) c
   unfolding refusal
-  no-answer h = turned-away c (ask o) h
+  ill-formed e = not-asked c (ask o) e
 
-  -- an answer with its route
-  pub answers : (n : ℕ) (r s : Route) → callOn c (ask o) ≡ record { reply = answered (asked (record { number = n; route = s })); cells = c } → r ≡ s
-      → (callOn c (ask o) .reply ≡ answered (asked (record { number = n; route = r }))) × (callOn c (ask o) .cells ≡ c)
-  answers n r s e q = (ap (λ (d : Done). d .reply) e ∙ (λ i. answered (asked (record { number = n; route = sym q i }))), ap (λ (d : Done). d .cells) e)
+  pub answers : wellFormed c ≡ true → Performed c (ask o) (answered (asked (askedAs 0 (routeOf table (decode c .config) (lookup o (decode c .records)))))) c
+  unfolding step answerBest
+  answers well = does c (ask o) well (answerBest table (decode c) (lookup o (decode c .records))) refl _ _ refl (sym (encode-decode c well))

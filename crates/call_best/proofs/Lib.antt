@@ -1,1 +1,2 @@
+-- The best question by the rules.
 pub mod Asking

@@ -1,1 +1,2 @@
--- There are no definitions here: the calls cite those of the table.
+-- The best question on a table's cells.
+pub mod Best

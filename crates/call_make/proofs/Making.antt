@@ -18,14 +18,14 @@ use Rattle.window.specs.Window.{numbers}
 use Rattle.wire.specs.Check.{given}
 use Rattle.rules.specs.declared.Settings.{Settings}
 use Rattle.rules.specs.declared.Interface.{Interface}
-use Rattle.rules.specs.Settings.{MakeArgs, configOf, interfaceTests, settingsOk, allowed, makeTests, makeAllowed, cellsNeeded, headCells, interfaceAreaCells, neighbourAreaCells, tableHead, recordCells, interfaceMost, interfaceCells, capacityMost, within, differ, ownAddresses}
+use Rattle.rules.specs.Settings.{addresses, MakeArgs, configOf, interfaceTests, settingsOk, allowed, makeTests, makeAllowed, cellsNeeded, headCells, interfaceAreaCells, neighbourAreaCells, tableHead, recordCells, interfaceMost, interfaceCells, capacityMost, within, differ, ownAddresses}
 use Rattle.rules.specs.Calls.{make, answered, made, refusal}
 use Rattle.rules.specs.Rules.{OutcomeOf, unless, refuse, begin, fresh, step}
 use Rattle.rules.specs.Table.{table}
 use Rattle.rules.proofs.Config.{make-allowed, within-high, allowed-by, settings-allowed, own-differ}
 use Rattle.table_layout.specs.Interfaces.{rowsWith, encodeInterface}
 use Rattle.table_layout.specs.Cells.{encode, decode}
-use Rattle.table_layout.specs.Calls.{callOn}
+use Rattle.table_layout.specs.Calls.{Done, callOn, Performed}
 use Rattle.call_make.specs.Make.{makeArgs, freshHead, freshRows, neededFor, noInterface}
 use Rattle.table_layout.proofs.Interfaces.{interface-wide}
 use Rattle.table_layout.proofs.Calls.{goes-on, turned-away}
@@ -51,8 +51,8 @@ four d (a ∷ b ∷ c ∷ x ∷ []) e = refl
 four d (a ∷ b ∷ c ∷ x ∷ y ∷ rows) e = let z : suc (suc (suc (suc (suc (length rows))))) ≡ 4 = e in absurd (omega arith)
 
 -- in their ranges, which their types see to
-pub in-range : (i : Interface) → i .own < 4294967296 → i .broadcast < 4294967296 → i .first < numbers → and (interfaceTests i) ≡ true
-in-range i o b f = both (lt-ltb (i .own) 4294967296 o) (both (lt-ltb (i .broadcast) 4294967296 b) (both (lt-ltb (i .first) numbers f) refl))
+pub in-range : (i : Interface) → i .own < addresses → i .broadcast < addresses → i .first < numbers → and (interfaceTests i) ≡ true
+in-range i o b f = both (lt-ltb (i .own) addresses o) (both (lt-ltb (i .broadcast) addresses b) (both (lt-ltb (i .first) numbers f) refl))
 
 pub four-in-range : {rows : List Interface} {a b c d : Interface} → rows ≡ a ∷ b ∷ c ∷ d ∷ [] → and (interfaceTests a) ≡ true → and (interfaceTests b) ≡ true → and (interfaceTests c) ≡ true → and (interfaceTests d) ≡ true
     → all (λ i. and (interfaceTests i)) rows ≡ true
@@ -147,12 +147,15 @@ module _ (c : List ℕ) (a : MakeArgs) where
   abbrev stepping : OutcomeOf table
   stepping = step table (length c) (decode c) (make a)
 
-  pub made-by : makeAllowed (length c) a ≡ true → callOn c (make a) ≡ record { reply = answered (made 0); cells = encode (fresh table (configOf a)) }
+  by-done : (x : Done) → callOn c (make a) ≡ x → (d : List ℕ) → d ≡ x .cells → Performed c (make a) (x .reply) d
+  by-done x e d ed = record { replies = ap (λ (y : Done). y .reply) (sym e); leaves = ed ∙ ap (λ (y : Done). y .cells) (sym e) }
+
+  pub made-by : makeAllowed (length c) a ≡ true → (d : List ℕ) → d ≡ encode (fresh table (configOf a)) → Performed c (make a) (answered (made 0)) d
   unfolding step unless
   made-by h =
       let s : stepping ≡ begin table a = ap (λ (b : Bool). unless (given (not b) 12) (refuse table (make a) (decode c)) (begin table a)) h in
-      goes-on c (make a) h ∙ (λ i. record { reply = s i .reply; cells = encode (s i .state) })
+      by-done (record { reply = answered (made 0); cells = encode (fresh table (configOf a)) }) (goes-on c (make a) h ∙ (λ i. record { reply = s i .reply; cells = encode (s i .state) }))
 
-  pub not-made : makeAllowed (length c) a ≡ false → callOn c (make a) ≡ record { reply = answered (made 12); cells = c }
+  pub not-made : makeAllowed (length c) a ≡ false → Performed c (make a) (answered (made 12)) c
   unfolding refusal
-  not-made h = turned-away c (make a) h
+  not-made h = by-done (record { reply = answered (made 12); cells = c }) (turned-away c (make a) h) c refl

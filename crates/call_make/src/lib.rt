@@ -18,7 +18,7 @@ ghost use mathlib.Core.Bool.{cond};
 ghost use Prim.Native.Nat.{_≤_};
 ghost use Rattle.rules.specs.Settings.{makeAllowed, interfaceMost};
 ghost use Rattle.rules.specs.Calls.{answered, made, make};
-ghost use Rattle.table_layout.specs.Calls.{callOn};
+ghost use Rattle.table_layout.specs.Calls.{Performed};
 ghost use Rattle.call_make.specs.Make.{makeArgs, neededFor, freshHead, freshRows, noInterface};
 
 // How many cells a capacity needs; 0 for one that is not allowed.
@@ -117,7 +117,7 @@ fn fresh_rows(rows: [Interface; 4], used: u64) -> [u64; INTERFACE_AREA]
 
 // Makes a table: 0 and a fresh table in all cells, whatever they held, or 12 and nothing changed.
 pub fn make(cells: &mut [u64], settings: Settings, rows: [Interface; 4], used: u64) -> u64
-    ensures { λ r. ⌜ (callOn (now (cells .entry)) (make (makeArgs settings rows used)) .reply ≡ answered (made r)) × (now (cells .exit) ≡ callOn (now (cells .entry)) (make (makeArgs settings rows used)) .cells) ⌝ }
+    ensures { λ r. ⌜ Performed (now (cells .entry)) (make (makeArgs settings rows used)) (answered (made r)) (now (cells .exit)) ⌝ }
 {
     if !make_allowed(cells.len(), settings, rows, used) {
         return NOT_ALLOWED;

@@ -11,36 +11,36 @@ use lib.ListN.{length, getD}
 use Rattle.wire.specs.declared.Fault.{Fault}
 use Rattle.wire.specs.Layout.{headerSize}
 use Rattle.wire.specs.Check.{faultOf}
-use Rattle.rules.specs.declared.Written.{Written}
-use Rattle.rules.specs.Calls.{OwnArgs, own, written, refusal}
+use Rattle.rules.specs.Calls.{OwnArgs, Reply, own, written, writtenAs, answeredWriting, refusal}
 use Rattle.rules.specs.Rules.{unless, step, ownFault, ownFaults, ownPacket}
 use Rattle.rules.specs.Settings.{ttlLeast, isInUse}
 use Rattle.rules.proofs.Faults.{none-at, not-given, numbered, first-numbered, given-numbered, written-numbered, no-number}
 use Rattle.lists.proofs.Tests.{both}
 use Rattle.table_layout.specs.Layout.{usedAt}
 use Rattle.table_layout.specs.Cells.{decode, wellFormed}
-use Rattle.table_changes.specs.Performed.{Performed}
+use Rattle.table_layout.specs.Calls.{Performed}
+use Rattle.table_changes.specs.Left.{Left}
 use Rattle.table_changes.proofs.Values.{used-read}
 use Rattle.table_changes.proofs.Performing.{not-asked, does, refuses}
 use Rattle.call_own_packet_checks.specs.OwnPacket.{args, faultIn}
-use Rattle.call_own_packet.specs.Sending.{sentFrom, Sent, refusedBy}
+use Rattle.call_own_packet.specs.Sending.{sentFrom}
 use Rattle.call_own_packet_checks.proofs.Refusals.{own-size}
 
 module _ (c : List ℕ) (a : OwnArgs) where
   -- refusal 1
-  pub ill-formed : wellFormed c ≡ false → Performed c (own a) (written (refusedBy 1 0)) (a .output) c
+  pub ill-formed : wellFormed c ≡ false → Performed c (own a) (answeredWriting (written (writtenAs 1 0 0 0)) (a .output)) c
   unfolding refusal
   ill-formed e = not-asked c (own a) e
 
   module _ (well : wellFormed c ≡ true) where
     -- a later refusal
-    pub faulty : (f : Fault) → faultIn c a ≡ some f → Performed c (own a) (written (refusedBy (f .number) (f .place))) (a .output) c
+    pub faulty : (f : Fault) → faultIn c a ≡ some f → Performed c (own a) (answeredWriting (written (writtenAs (f .number) (f .place) 0 0)) (a .output)) c
     unfolding step unless refusal
     faulty f e = refuses c (own a) well well f (rw e)
 
-    pub sends : faultIn c a ≡ none → (r : Written) (o d : List ℕ) → Sent c a r o d → Performed c (own a) (written r) o d
+    pub sends : faultIn c a ≡ none → (reply : Reply) (d : List ℕ) → Left (sentFrom c a) reply d → Performed c (own a) reply d
     unfolding step unless
-    sends e r o d s = does c (own a) well (sentFrom c a) (rw e) (written r) o d (s .answers) (s .writes) (s .leaves)
+    sends e reply d l = does c (own a) well (sentFrom c a) (rw e) reply d (l .replies) (l .leaves)
 
 -- what no refusal tells
 module _ (c : List ℕ) (i t ttl g p : ℕ) (e o : List ℕ) (n : faultIn c (args i t ttl g p e o) ≡ none) where

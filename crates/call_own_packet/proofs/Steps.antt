@@ -20,8 +20,9 @@ use Rattle.window.specs.Window.{distance}
 use Rattle.lists.specs.Keyed.{put, rising}
 use Rattle.cells.specs.Pairs.{pairArea, pairsOf}
 use Rattle.cells.proofs.Pairs.{pairs-area}
-use Rattle.rules.specs.Settings.{Config, interfaceMost, neighbourMost, interfaceCells, isNumber}
-use Rattle.rules.specs.Calls.{interfaceOf, OwnArgs, written}
+use Rattle.rules.specs.declared.Written.{Written}
+use Rattle.rules.specs.Settings.{Config, neighbourMost, interfaceCells, isNumber}
+use Rattle.rules.specs.Calls.{interfaceOf, written, writtenAs, answeredWriting}
 use Rattle.rules.specs.Rules.{Sends, lastSent, nextNumber, sendOn, ownHeader, send}
 use Rattle.rules.specs.WellFormed.{rowTests}
 use Rattle.rules.proofs.Sends.{last-own}
@@ -31,13 +32,14 @@ use Rattle.table_layout.specs.Layout.{timeoutAt, usedAt, timeAt, rowsAt, neighb
 use Rattle.table_layout.specs.Cells.{encode, decode}
 use Rattle.table_layout.specs.Facts.{Knows}
 use Rattle.table_changes.specs.Changes.{withTime, withSends, withRows}
-use Rattle.table_changes.proofs.Values.{used-read}
+use Rattle.table_changes.specs.Left.{Left}
 use Rattle.table_layout.proofs.Parts.{encoded-size, rows-lent}
 use Rattle.table_changes.proofs.Parts.{time-set, rows-back}
 use Rattle.table_changes.proofs.Sent.{interface-back}
 use Rattle.table_neighbours.specs.Neighbours.{RowsHeld, staysAfter}
 use Rattle.call_own_packet_checks.specs.OwnPacket.{args, headerFrom}
-use Rattle.call_own_packet.specs.Sending.{RowsPart, Sent}
+use Rattle.call_own_packet_checks.proofs.Message.{in-use, few}
+use Rattle.call_own_packet.specs.Sending.{RowsPart, sentFrom}
 
 -- ---- the number in the interface's row
 
@@ -45,17 +47,11 @@ module _ (c : List ℕ) (k : Knows c) (i : ℕ) (used : i < getD c usedAt 0) whe
   is : c ≡ encode (decode c)
   is = sym (k .cells)
 
-  in-use : i < length (decode c .config .interfaces)
-  in-use = omega (arith, used-read c)
-
-  few : length (decode c .config .interfaces) ≤ interfaceMost
-  few = omega (arith, used-read c, k .sized .used-most)
-
   -- the row with its number
   pub sent-is : (n : ℕ) (y : List ℕ) → y ≡ set (set (take interfaceCells (drop (ownPlace i) c)) sentAt 1) lastAt n → putMid (ownPlace i) interfaceCells c y ≡ encode (withSends (put i n (decode c .sends)) (decode c))
   sent-is n y e =
       ap (λ (l : List ℕ). putMid (ownPlace i) interfaceCells l y) is
-      ∙ interface-back (decode c) i n in-use few y (e ∙ ap (λ (l : List ℕ). set (set (take interfaceCells (drop (ownPlace i) l)) sentAt 1) lastAt n) is)
+      ∙ interface-back (decode c) i n (in-use c i used) (few c k) y (e ∙ ap (λ (l : List ℕ). set (set (take interfaceCells (drop (ownPlace i) l)) sentAt 1) lastAt n) is)
 
 head-timeout : (s : TableState) → getD (encode s) timeoutAt 0 ≡ s .config .settings .timeout
 unfolding encode
@@ -121,21 +117,19 @@ module _ (c : List ℕ) (k : Knows c) where
       (all-weaken (λ x. and (rowTests (decode c .config) (decode c .sends) x)) (λ x. isNumber (x .1)) (λ x h. and-at (rowTests (decode c .config) (decode c .sends) x) h 3) (decode c .rows) (w .rows .each)))
 
   module _ (i t ttl g p : ℕ) (e o : List ℕ) (n : ℕ) (en : n ≡ nextNumber (decode c .config) (decode c .sends) i) where
-    a : OwnArgs
-    a = args i t ttl g p e o
-
     pub sent-all : (h : Header) (len : ℕ) (o′ d final : List ℕ) → h ≡ headerFrom (decode c .config) i n ttl g p → len ≡ headerSize + length e → o′ ≡ writtenTo (packetOf h e) o
         → d ≡ encode (withSends (put i n (decode c .sends)) (decode c))
         → ((s : TableState) → d ≡ encode s → final ≡ encode (withTime t (withRows (keep (staysAfter i n (s .config .settings .timeout)) (s .rows)) s)))
-        → Sent c (args i t ttl g p e o) (record { number = 0; place = 0; length = len; sequence = n }) o′ final
+        → (r : Written) → r ≡ writtenAs 0 0 len n → Left (sentFrom c (args i t ttl g p e o)) (answeredWriting (written r) o′) final
     unfolding send
-    sent-all h len o′ d final eh el eo ed ef =
+    sent-all h len o′ d final eh el eo ed ef r er =
         let κ : Config = decode c .config in
         let ns : Sends = decode c .sends in
         let hd : h ≡ ownHeader κ ns (args i t ttl g p e o) = eh ∙ ap (λ (m : ℕ). headerFrom κ i m ttl g p) en in
+        let answer : r ≡ writtenAs 0 0 (length (packetOf (ownHeader κ ns (args i t ttl g p e o)) e)) (nextNumber κ ns i) =
+        er ∙ ap₂ (writtenAs 0 0) (el ∙ sym (reads-back (ownHeader κ ns (args i t ttl g p e o)) e .size)) en in
         record {
-          answers = ap₂ (λ (x m : ℕ). written (record { number = 0; place = 0; length = x; sequence = m })) (el ∙ sym (reads-back (ownHeader κ ns (args i t ttl g p e o)) e .size)) en;
-          writes = eo ∙ ap (λ (x : Header). writtenTo (packetOf x e) o) hd;
+          replies = ap₂ (λ (x : Written) (l : List ℕ). answeredWriting (written x) l) answer (eo ∙ ap (λ (x : Header). writtenTo (packetOf x e) o) hd);
           leaves =
               ef (withSends (put i n ns) (decode c)) ed
               ∙ ap₂ (λ (m : ℕ) (rs : TableRows). encode (withTime t (withRows rs (withSends (put i m ns) (decode c))))) en

@@ -27,12 +27,13 @@ ghost use Rattle.rules.specs.Table.{TableState};
 ghost use Rattle.table_layout.specs.Layout.{usedAt, sentAt, lastAt};
 ghost use Rattle.table_layout.specs.Cells.{encode, decode};
 ghost use Rattle.table_layout.specs.Facts.{Knows};
-ghost use Rattle.rules.specs.Calls.{own, written};
+ghost use Rattle.rules.specs.Calls.{own, written, writtenAs, answeredWriting};
+ghost use Rattle.table_layout.specs.Calls.{Performed};
 ghost use Rattle.table_changes.specs.Changes.{withTime, withSends, withRows};
-ghost use Rattle.table_changes.specs.Performed.{Performed};
+ghost use Rattle.table_changes.specs.Left.{Left};
 ghost use Rattle.table_neighbours.specs.Neighbours.{staysAfter};
 ghost use Rattle.call_own_packet_checks.specs.OwnPacket.{args};
-ghost use Rattle.call_own_packet.specs.Sending.{RowsPart, Sent, refusedBy};
+ghost use Rattle.call_own_packet.specs.Sending.{RowsPart, sentFrom};
 
 // An interface has sent a number.
 fn row_sent(row: &mut [u64], number: u16)
@@ -70,6 +71,18 @@ fn drop_rows(cells: &mut [u64], i: u64, number: u16, time: u64)
     cells[TIME] = time;
 }
 
+// The answer, put together here alone.
+fn written_as(number: u64, place: u64, length: u64, sequence: u16) -> Written
+    ensures { λ r. ⌜ r ≡ writtenAs number place length sequence ⌝ }
+{
+    Written {
+        number,
+        place,
+        length,
+        sequence,
+    }
+}
+
 // Writes the packet, and notes in the table that it was sent.
 fn send_packet(
     cells: &mut [u64],
@@ -82,7 +95,7 @@ fn send_packet(
     out: &mut [u8],
 ) -> Written
     requires { ⌜ Knows (now cells) × (i < getD (now cells) usedAt 0) × (headerSize + length (now hna) ≤ length (now out)) ⌝ }
-    ensures { λ r. ⌜ Sent (now (cells .entry)) (args i time ttl gateway port (now (hna .entry)) (now (out .entry))) r (now (out .exit)) (now (cells .exit)) ⌝ }
+    ensures { λ r. ⌜ Left (sentFrom (now (cells .entry)) (args i time ttl gateway port (now (hna .entry)) (now (out .entry)))) (answeredWriting (written r) (now (out .exit))) (now (cells .exit)) ⌝ }
 {
     let at = INTERFACES_FROM + i * INTERFACE;
     let end = at + INTERFACE;
@@ -91,24 +104,7 @@ fn send_packet(
     let length = write_packet(out, h, hna);
     mark_sent(cells, i, number);
     drop_rows(cells, i as u64, number, time);
-    Written {
-        number: 0,
-        place: 0,
-        length: length as u64,
-        sequence: number,
-    }
-}
-
-// The answer to a refused own packet.
-fn refused(number: u64, place: u64) -> Written
-    ensures { λ r. ⌜ r ≡ refusedBy number place ⌝ }
-{
-    Written {
-        number,
-        place,
-        length: 0,
-        sequence: 0,
-    }
+    written_as(0, 0, length as u64, number)
 }
 
 // Writes the next own packet of an interface at the start of the output, or refuses.
@@ -122,14 +118,14 @@ pub fn own_packet(
     hna: &[u8],
     out: &mut [u8],
 ) -> Written
-    ensures { λ r. ⌜ Performed (now (cells .entry)) (own (args interface time ttl gateway port (now (hna .entry)) (now (out .entry)))) (written r) (now (out .exit)) (now (cells .exit)) ⌝ }
+    ensures { λ r. ⌜ Performed (now (cells .entry)) (own (args interface time ttl gateway port (now (hna .entry)) (now (out .entry)))) (answeredWriting (written r) (now (out .exit))) (now (cells .exit)) ⌝ }
 {
     if !well_formed(cells) {
-        return refused(NOT_WELL_FORMED, 0);
+        return written_as(NOT_WELL_FORMED, 0, 0, 0);
     }
     let fault = own_fault(cells, interface, time, ttl, hna, out.len());
     if fault.number != 0 {
-        return refused(fault.number, fault.place);
+        return written_as(fault.number, fault.place, 0, 0);
     }
     send_packet(
         cells,

@@ -23,6 +23,14 @@ use Rattle.table_layout.specs.Facts.{Knows}
 use Rattle.table_changes.proofs.Values.{used-read}
 use Rattle.table_changes.proofs.Sent.{none-sent, interface-lent}
 
+-- ---- the interfaces in use
+
+pub in-use : (c : List ℕ) (i : ℕ) → i < getD c usedAt 0 → i < length (decode c .config .interfaces)
+in-use c i h = omega (arith, used-read c)
+
+pub few : (c : List ℕ) → Knows c → length (decode c .config .interfaces) ≤ interfaceMost
+few c k = omega (arith, used-read c, k .sized .used-most)
+
 -- ---- the next number, by an interface's row
 
 module _ (row : List ℕ) (x : Interface) (fits : x .first < numbers) where
@@ -61,16 +69,10 @@ module _ (c : List ℕ) (k : Knows c) (i : ℕ) (used : i < getD c usedAt 0) whe
   well : Wf (decode c)
   well = parts (decode c) (k .valid)
 
-  in-use : i < length (decode c .config .interfaces)
-  in-use = omega (arith, used-read c)
-
-  few : length (decode c .config .interfaces) ≤ interfaceMost
-  few = omega (arith, used-read c, k .sized .used-most)
-
   row-is : take interfaceCells (drop (ownPlace i) c) ≡ encodeInterface (interfaceAt (decode c .config) i, lookup i (decode c .sends))
   row-is =
-      ap (λ (l : List ℕ). take interfaceCells (drop (ownPlace i) l)) is ∙ interface-lent (decode c) i 0 in-use few
-      ∙ ap encodeInterface (interface-row (decode c .sends) 0 i (decode c .config .interfaces) (record { own = 0; broadcast = 0; first = 0 }) in-use
+      ap (λ (l : List ℕ). take interfaceCells (drop (ownPlace i) l)) is ∙ interface-lent (decode c) i 0 (in-use c i used) (few c k)
+      ∙ ap encodeInterface (interface-row (decode c .sends) 0 i (decode c .config .interfaces) (record { own = 0; broadcast = 0; first = 0 }) (in-use c i used)
       ∙ ap (λ (m : ℕ). (interfaceAt (decode c .config) i, lookup m (decode c .sends))) (zero-add i))
 
   first-fits : interfaceAt (decode c .config) i .first < numbers

@@ -19,6 +19,7 @@ use Rattle.table_layout.specs.Layout.{timeAt, usedAt}
 use Rattle.table_layout.specs.Cells.{decode}
 use Rattle.table_changes.proofs.Values.{time-read, used-read}
 use Rattle.call_own_packet_checks.specs.OwnPacket.{args, faultIn}
+use Rattle.call_own_packet_checks.proofs.Message.{in-use}
 
 -- a refusal that is found comes before those that follow
 first-found : (x y : Option Fault) → (faultOf x .number ≡ 0 → ⊥) → faultOf x ≡ faultOf (maybe x y some)
@@ -37,8 +38,8 @@ module _ (c : List ℕ) (i t ttl g p : ℕ) (e o : List ℕ) where
   not-in-use h = rw (le-ltb i (length (decode c .config .interfaces)) (omega (arith, used-read c)))
 
   module _ (used : i < getD c usedAt 0) where
-    u : i < length (decode c .config .interfaces)
-    u = omega (arith, used-read c)
+    abbrev u : i < length (decode c .config .interfaces)
+    u = in-use c i used
 
     pub before : t < getD c timeAt 0 → numbered 3 ≡ faultOf (faultIn c a)
     unfolding ownFault

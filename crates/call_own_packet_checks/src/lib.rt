@@ -1,5 +1,7 @@
 // An own packet on a well-formed table: what is refused of it, its number and its message.
 use packet_check::written_fault;
+use rules::limits::ADDRESSES;
+use rules::limits::OCTETS;
 use rules::limits::TTL_LEAST;
 use table_layout::FIRST;
 use table_layout::INTERFACE;
@@ -10,9 +12,7 @@ use table_layout::SENT;
 use table_layout::TIME;
 use table_layout::USED;
 use table_layout::VERSION;
-use table_record::ADDRESSES;
-use table_record::NUMBERS;
-use table_record::OCTETS;
+use window::NUMBERS;
 use wire::Fault;
 use wire::HEADER_SIZE;
 use wire::Header;

@@ -14,10 +14,11 @@ use Rattle.window.specs.Window.{numbers}
 use Rattle.wire.specs.declared.Fault.{Fault}
 use Rattle.wire.specs.Layout.{headerSize, packetMost, sequenceAt}
 use Rattle.wire.specs.Packet.{octet, header}
+use Rattle.wire.specs.Check as check
 use Rattle.wire.specs.Check.{faultOf, packetFault, packetFaults}
 use Rattle.rules.specs.declared.Received.{Received}
 use Rattle.rules.specs.Settings.{isInUse, isOctet}
-use Rattle.rules.specs.Calls.{ReceiveArgs, receive, received, refusal}
+use Rattle.rules.specs.Calls.{ReceiveArgs, Reply, receive, received, answeredWriting, refusal}
 use Rattle.rules.specs.Rules.{step, receiveFault, receiveFaults}
 use Rattle.rules.specs.Table.{table}
 use Rattle.rules.specs.WellFormed as R
@@ -26,12 +27,13 @@ use Rattle.rules.proofs.Faults.{none-at, not-given, numbered, first-numbered, g
 use Rattle.table_layout.specs.Layout.{usedAt, ownAt, broadcastAt}
 use Rattle.table_layout.specs.Interfaces.{encodeInterface}
 use Rattle.table_layout.specs.Cells.{decode, wellFormed}
-use Rattle.table_layout.proofs.Encoding.{laws}
-use Rattle.table_check.proofs.Knowing.{knows}
-use Rattle.table_changes.specs.Performed.{Performed}
+use Rattle.table_layout.specs.Calls.{Performed}
+use Rattle.table_layout.specs.Facts.{Knows}
+use Rattle.table_check.proofs.Knowing.{knows, well-formed}
 use Rattle.table_changes.proofs.Values.{used-read}
 use Rattle.table_changes.proofs.Performing.{not-asked, does, refuses}
-use Rattle.call_receive_arrival.specs.Receiving.{argsOf, arrivalOf, Leaves, IsFieldAt, Taken}
+use Rattle.table_changes.proofs.Staying.{stays}
+use Rattle.call_receive_arrival.specs.Receiving.{argsOf, arrivalOf, Leaves, refusedBy, IsFieldAt, Taken}
 use Rattle.call_receive_arrival.proofs.Ways.{way-refused}
 
 pub own-field : IsFieldAt (λ i. i .own) ownAt
@@ -43,17 +45,21 @@ unfolding encodeInterface
 broadcast-field x = refl
 
 module _ (c : List ℕ) (a : ReceiveArgs) where
-  pub ill-formed : wellFormed c ≡ false → (r : Received) → ((b : ReceiveArgs) → received r ≡ refusal (receive b) (record { number = 1; place = 0 }) .answer) → Performed c (receive a) (received r) (a .output) c
+  pub ill-formed : wellFormed c ≡ false → (r : Received) → r ≡ refusedBy (check.numbered 1) → Performed c (receive a) (answeredWriting (received r) (a .output)) c
   unfolding refusal
-  ill-formed e r answers = subst (λ x. Performed c (receive a) x (a .output) c) (sym (answers a)) (not-asked c (receive a) e)
+  ill-formed e r er = rw er (not-asked c (receive a) e)
 
-  module _ (well : wellFormed c ≡ true) where
-    pub faulty : (f : Fault) → receiveFault (decode c .config) (decode c .time) a ≡ some f → (r : Received) → ((b : ReceiveArgs) → received r ≡ refusal (receive b) f .answer) → Performed c (receive a) (received r) (a .output) c
+  module _ (k : Knows c) where
+    pub faulty : (f : Fault) → receiveFault (decode c .config) (decode c .time) a ≡ some f → (r : Received) → r ≡ refusedBy f → Performed c (receive a) (answeredWriting (received r) (a .output)) c
     unfolding refusal
-    faulty f e r answers = subst (λ x. Performed c (receive a) x (a .output) c) (sym (answers a)) (refuses c (receive a) well well f (way-refused (decode c) a (length c) e))
+    faulty f e r er = let well = well-formed c k in rw er (refuses c (receive a) well well f (way-refused (decode c) a (length c) e))
 
-    pub judged : (r : Received) (q d : List ℕ) → Leaves d q r (step table (length c) (decode c) (receive a)) → Performed c (receive a) (received r) q d
-    judged r q d l = does c (receive a) well (step table (length c) (decode c) (receive a)) refl (received r) q d (l .reply .answer) (l .reply .output) (l .cells)
+    pub judged : (r : Received) (q d : List ℕ) → Leaves d q r (step table (length c) (decode c) (receive a)) → Performed c (receive a) (answeredWriting (received r) q) d
+    judged r q d l = does c (receive a) (well-formed c k) (step table (length c) (decode c) (receive a)) refl _ d (l .replies) (l .leaves)
+
+    -- what the call leaves is a well-formed table's
+    pub left-known : R.typed (receive a) ≡ true → (x : Reply) (d : List ℕ) → Performed c (receive a) x d → Knows d
+    left-known t x d w = subst Knows (sym (w .leaves)) (knows _ (stays c (receive a) t (well-formed c k)))
 
 -- the refusals' number is 0 exactly where there is none
 pub by-number : (c : List ℕ) (a : ReceiveArgs) → faultOf (receiveFault (decode c .config) (decode c .time) a) .number ≡ 0 → receiveFault (decode c .config) (decode c .time) a ≡ none
@@ -97,12 +103,12 @@ sequence-below p h =
     omega (arith, below sequenceAt, below (sequenceAt + 1))
 
 -- the message that such a packet begins with is taken
-pub takes : (c p : List ℕ) (sender interface time : ℕ) (o : List ℕ) → wellFormed c ≡ true → receiveFault (decode c .config) (decode c .time) (argsOf p sender interface time o) ≡ none
+pub takes : (c p : List ℕ) (sender interface time : ℕ) (o : List ℕ) → Knows c → receiveFault (decode c .config) (decode c .time) (argsOf p sender interface time o) ≡ none
     → R.typed (receive (argsOf p sender interface time o)) ≡ true → Taken c p o (arrivalOf p sender interface time)
-takes c p sender interface time o well n typed =
+takes c p sender interface time o k n typed =
     record {
-      knows = knows c well;
-      kept = wellFormed-step (length c) (decode c) (laws .table c well) (receive (argsOf p sender interface time o)) typed;
+      knows = k;
+      kept = wellFormed-step (length c) (decode c) (k .valid) (receive (argsOf p sender interface time o)) typed;
       sequence = sequence-below p (and-at (R.receiveTypes (argsOf p sender interface time o)) typed 1);
       fits = record { reads = refl; size = has-header c (argsOf p sender interface time o) n; room = has-room c (argsOf p sender interface time o) n };
       interface = in-use c (argsOf p sender interface time o) n;

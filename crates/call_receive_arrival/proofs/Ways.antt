@@ -20,7 +20,7 @@ use Rattle.wire.specs.Check.{numbered}
 use Rattle.rules.specs.Settings.{Config, neighbourMost, linkMost, isOwn, isBroadcast}
 use Rattle.rules.specs.Calls.{ReceiveArgs, receive}
 use Rattle.rules.specs.declared.Ogm.{Ogm}
-use Rattle.rules.specs.Rules.{sequenceOf, OutcomeOf, branch, unless, receiveFault, linkBy, message, isEcho, isDuplicate, withTime, withRows, withRecords, refuse, verdict, storeCounted, counted, uncounted, decide, takeEcho, judge, step}
+use Rattle.rules.specs.Rules.{sequenceOf, OutcomeOf, branch, unless, receiveFault, linkBy, message, isEcho, isDuplicate, isFresh, withTime, withRows, withRecords, refuse, verdict, storeCounted, counted, uncounted, decide, takeEcho, judge, step}
 use Rattle.rules.specs.Table.{TableRecord, TableState, settle, firstRecord, nextRecord, recordEcho, table}
 use Rattle.call_receive_arrival.specs.Receiving.{ownMessage, foreign, concluded}
 
@@ -29,8 +29,8 @@ abbrev pub holding : TableState → ReceiveArgs → Header → TableRecord → T
 holding s a h x = withRecords table s (a .time) (put (h .originator) x (s .records))
 
 -- 25 or 26 as the call leaves the table s
-abbrev pub concludes : TableState → ReceiveArgs → Header → (bidirectional duplicate : Bool) → OutcomeOf table
-concludes s a h b d = record { reply = concluded s a h b d; state = s }
+abbrev pub concludes : TableState → ReceiveArgs → Header → (bidirectional fresh : Bool) → OutcomeOf table
+concludes s a h b f = record { reply = concluded s a h b f; state = s }
 
 settle-few : (κ : Config) (m : Ogm) (c b v : ℕ) (ls : List (ℕ × ℕ)) → length (settle κ m c b v ls .links) ≤ length ls
 settle-few κ m c b v ls = keep-length (λ (e : ℕ × ℕ). hasMark (e .1) || eqb (e .0) (settle κ m c b v ls .best)) ls
@@ -104,25 +104,25 @@ module _ (s : TableState) (a : ReceiveArgs) where
     abbrev held : Option TableRecord
     held = lookup (h .originator) (s .records)
 
-    pub way-counted : (b : Bool) → (b && not (isDuplicate table (s .config) a h held)) ≡ true → decide table s a h b held ≡ counted table s a h held
+    pub way-counted : isDuplicate table (s .config) a h held ≡ false → decide table s a h true held ≡ counted table s a h true held
     unfolding decide branch
-    way-counted b e = rw e
+    way-counted e = rw e
 
-    pub way-uncounted : (b d : Bool) → d ≡ isDuplicate table (s .config) a h held → (b && not d) ≡ false → decide table s a h b held ≡ concludes (withTime table s (a .time)) a h b d
+    pub way-uncounted : (b f : Bool) → f ≡ isFresh table (s .config) a h held → (b && not (isDuplicate table (s .config) a h held)) ≡ false → decide table s a h b held ≡ concludes (withTime table s (a .time)) a h b f
     unfolding decide branch uncounted
-    way-uncounted b d ed e = rw (sym ed, e)
+    way-uncounted b f ef e = rw (e, sym ef)
 
-    pub way-10 : s .config .settings .capacity ≤ length (s .records) → counted table s a h none ≡ refuse table (receive a) s (numbered 10)
+    pub way-10 : (f : Bool) → s .config .settings .capacity ≤ length (s .records) → counted table s a h f none ≡ refuse table (receive a) s (numbered 10)
     unfolding counted unless
-    way-10 l = rw (le-leb (s .config .settings .capacity) (length (s .records)) l)
+    way-10 f l = rw (le-leb (s .config .settings .capacity) (length (s .records)) l)
 
-    pub way-first : length (s .records) < s .config .settings .capacity → counted table s a h none ≡ storeCounted table s a h (firstRecord (s .config) (message a h))
+    pub way-first : (f : Bool) → length (s .records) < s .config .settings .capacity → counted table s a h f none ≡ storeCounted table s a h f (firstRecord (s .config) (message a h))
     unfolding counted unless
-    way-first l = rw (lt-leb (s .config .settings .capacity) (length (s .records)) l)
+    way-first f l = rw (lt-leb (s .config .settings .capacity) (length (s .records)) l)
 
-    pub way-next : (x : TableRecord) → counted table s a h (some x) ≡ storeCounted table s a h (nextRecord (s .config) (message a h) x)
+    pub way-next : (f : Bool) (x : TableRecord) → counted table s a h f (some x) ≡ storeCounted table s a h f (nextRecord (s .config) (message a h) x)
     unfolding counted
-    way-next x = refl
+    way-next f x = refl
 
     -- one link is not too many
     pub first-few : length (firstRecord (s .config) (message a h) .links) ≤ linkMost
@@ -133,12 +133,12 @@ module _ (s : TableState) (a : ReceiveArgs) where
         let v = mark 0 (distance n n) in
         omega (arith, settle-few (s .config) m n (m .link) v ((m .link, v) ∷ []))
 
-    module _ (x : TableRecord) where
-      pub way-11 : linkMost < length (x .links) → storeCounted table s a h x ≡ refuse table (receive a) s (numbered 11)
+    module _ (f : Bool) (x : TableRecord) where
+      pub way-11 : linkMost < length (x .links) → storeCounted table s a h f x ≡ refuse table (receive a) s (numbered 11)
       unfolding storeCounted unless
       way-11 l = rw (length-mapValues count (x .links), lt-ltb linkMost (length (x .links)) l)
 
       -- best is judged after counting
-      pub way-stored : length (x .links) ≤ linkMost → storeCounted table s a h x ≡ concludes (holding s a h x) a h true false
+      pub way-stored : length (x .links) ≤ linkMost → storeCounted table s a h f x ≡ concludes (holding s a h x) a h true f
       unfolding storeCounted unless
       way-stored l = rw (length-mapValues count (x .links), le-ltb linkMost (length (x .links)) l, lookup-put (h .originator) x (s .records))

@@ -2,23 +2,25 @@
 use Prim.Native.Nat.{ℕ, _≤_, _<_}
 use mathlib.Core.Path.{_≡_}
 use mathlib.Core.Bool.{Bool, true}
-use mathlib.Core.List.{List}
+use mathlib.Core.List.{List, []}
 use lib.ListN.{length, getD}
 use Rattle.lists.specs.Keyed.{lookup, hasKey}
 use Rattle.window.specs.Window.{numbers}
 use Rattle.wire.specs.declared.Header.{Header}
+use Rattle.wire.specs.declared.Fault.{Fault}
 use Rattle.wire.specs.Layout.{headerSize}
 use Rattle.wire.specs.Packet.{header}
 use Rattle.rules.specs.declared.Received.{Received}
 use Rattle.rules.specs.declared.Interface.{Interface}
-use Rattle.rules.specs.Calls.{linkOf, received, receive, ReceiveArgs, Reply}
-use Rattle.rules.specs.Rules.{OutcomeOf, branch, lastSent, isEcho, takeEcho, verdict, linkBy, withTime, routeOf, isPassedOn, conclude, counted, decide, step}
+use Rattle.rules.specs.Calls.{received, receive, ReceiveArgs, Reply, receivedAs, answeredWriting, noRoute}
+use Rattle.rules.specs.Rules.{OutcomeOf, branch, lastSent, isEcho, takeEcho, verdict, linkBy, message, withTime, routeOf, isPassedOn, conclude, counted, decide, step}
 use Rattle.rules.specs.Table.{TableState, table}
 use Rattle.rules.specs.WellFormed.{wellFormed}
 use Rattle.table_layout.specs.Layout.{usedAt}
 use Rattle.table_layout.specs.Interfaces.{InterfaceRow, encodeInterface}
 use Rattle.table_layout.specs.Cells.{encode, decode}
 use Rattle.table_layout.specs.Facts.{Knows}
+use Rattle.table_changes.specs.Left.{Left}
 use Rattle.call_receive_arrival.specs.declared.Arrival.{Arrival}
 
 -- the arguments of a call
@@ -31,17 +33,14 @@ arrivalOf p a i t =
     record {
       sender = a;
       interface = i;
-      link = linkOf a i;
-      time = t;
       flags = header p .flags;
-      ttl = header p .ttl;
-      sequence = header p .sequence;
       originator = header p .originator;
+      ogm = message (argsOf p a i t []) (header p);
     }
 
 -- a message's call, with its packet and the lent output
 abbrev pub callOf : (p o : List ℕ) → Arrival → ReceiveArgs
-callOf p o m = argsOf p (m .sender) (m .interface) (m .time) o
+callOf p o m = argsOf p (m .sender) (m .interface) (m .ogm .time) o
 
 -- what the rules make of it on a table's cells
 abbrev pub after : (c p o : List ℕ) → Arrival → OutcomeOf table
@@ -49,25 +48,29 @@ after c p o m = step table (length c) (decode c) (receive (callOf p o m))
 
 -- ---- what is left
 
--- the answer r and the output q are those of a reply
-pub record Replies (q : List ℕ) (r : Received) (x : Reply) : Type 0 where
-  pub answer : received r ≡ x .answer
-  pub output : q ≡ x .output
+-- the answer r, the output q and the cells d are those of an outcome
+abbrev pub Leaves : (d q : List ℕ) → Received → OutcomeOf table → Type 0
+Leaves d q r x = Left x (answeredWriting (received r) q) d
 
--- and the cells d those of the state
-pub record Leaves (d q : List ℕ) (r : Received) (x : OutcomeOf table) : Type 0 where
-  pub reply : Replies q r (x .reply)
-  pub cells : d ≡ encode (x .state)
+-- the answer to a refused packet
+abbrev pub refusedBy : Fault → Received
+refusedBy f = receivedAs (f .number) (f .place) 0 noRoute
 
 -- the answer of a verdict that writes nothing, with the route of the originator in a table
 abbrev pub verdictOf : TableState → (number originator : ℕ) → Received
-verdictOf s v o = record { number = v; place = 0; flags = 0; route = routeOf table (s .config) (lookup o (s .records)) }
+verdictOf s v o = receivedAs v 0 0 (routeOf table (s .config) (lookup o (s .records)))
 
 -- ---- what is asked
 
+-- the cells are a table's that is well-formed once the call sets its time
+pub record Ends (c : List ℕ) (time : ℕ) : Type 0 where
+  pub state : TableState
+  pub cells : c ≡ encode state
+  pub valid : wellFormed (withTime table state time) ≡ true
+
 -- the packet p has room in the output o, and m is the message that it begins with
 pub record Fits (p o : List ℕ) (m : Arrival) : Type 0 where
-  pub reads : m ≡ arrivalOf p (m .sender) (m .interface) (m .time)
+  pub reads : m ≡ arrivalOf p (m .sender) (m .interface) (m .ogm .time)
   pub size : headerSize ≤ length p
   pub room : length p ≤ length o
 
@@ -77,7 +80,7 @@ pub record Taken (c p o : List ℕ) (m : Arrival) : Type 0 where
   pub kept : wellFormed (after c p o m .state) ≡ true
   pub fits : Fits p o m
   pub interface : m .interface < getD c usedAt 0
-  pub sequence : m .sequence < numbers
+  pub sequence : m .ogm .sequence < numbers
 
 -- a rule on a table, for a call and its header
 abbrev pub Rule : Type 0
@@ -88,7 +91,7 @@ abbrev pub Ruled : (c p o : List ℕ) → Arrival → Rule → Type 0
 Ruled c p o m rule = after c p o m ≡ rule (decode c) (callOf p o m) (header p)
 
 -- m is the message of a packet, whichever it is, that comes down to this rule
-pub record Heard (c : List ℕ) (m : Arrival) (rule : Rule) : Type 0 where
+pub record ComesTo (c : List ℕ) (m : Arrival) (rule : Rule) : Type 0 where
   pub packet : List ℕ
   pub output : List ℕ
   pub taken : Taken c packet output m
@@ -96,7 +99,7 @@ pub record Heard (c : List ℕ) (m : Arrival) (rule : Rule) : Type 0 where
 
 -- the message's number is the last that its interface has sent
 abbrev pub Echoes : List ℕ → Arrival → Type 0
-Echoes c m = m .sequence ≡ lastSent (decode c .config) (decode c .sends) (m .interface)
+Echoes c m = m .ogm .sequence ≡ lastSent (decode c .config) (decode c .sends) (m .interface)
 
 -- ---- names for parts of the rules
 
@@ -109,10 +112,10 @@ abbrev pub foreign : Rule
 foreign s a h = decide table s a h (hasKey (linkBy a) (s .rows)) (lookup (h .originator) (s .records))
 
 -- 25 or 26, with the originator's record as s has it
-abbrev pub concluded : TableState → ReceiveArgs → Header → (bidirectional duplicate : Bool) → Reply
-concluded s a h b d =
+abbrev pub concluded : TableState → ReceiveArgs → Header → (bidirectional fresh : Bool) → Reply
+concluded s a h b fresh =
     let x = lookup (h .originator) (s .records) in
-    conclude a h b (isPassedOn table (s .config) a h b d x) (routeOf table (s .config) x)
+    conclude a h b (isPassedOn table (s .config) a h b fresh x) (routeOf table (s .config) x)
 
 -- the field f of an interface stands at a place of its row
 abbrev pub IsFieldAt : (f : Interface → ℕ) (place : ℕ) → Type 0
@@ -123,9 +126,9 @@ IsFieldAt f k = (x : InterfaceRow) → getD (encodeInterface x) k 0 ≡ f (x .0)
 -- the packet is neither from nor of this node, and its link has a neighbour row or not
 pub record Decides (c p o : List ℕ) (m : Arrival) (bidirectional : Bool) : Type 0 where
   pub taken : Taken c p o m
-  pub link : bidirectional ≡ hasKey (m .link) (decode c .rows)
+  pub link : bidirectional ≡ hasKey (m .ogm .link) (decode c .rows)
   pub ruled : Ruled c p o m foreign
 
--- it is counted
+-- it is counted, and so no duplicate
 abbrev pub Counts : (c p o : List ℕ) → Arrival → Type 0
-Counts c p o m = Ruled c p o m (λ s a h. counted table s a h (lookup (h .originator) (s .records)))
+Counts c p o m = Ruled c p o m (λ s a h. counted table s a h true (lookup (h .originator) (s .records)))

@@ -1,11 +1,11 @@
 // A received message, and how its packet ends: refused, or with a verdict and the route of its originator.
-use call_best::best::no_route;
-use call_best::best::route_to;
+use call_best::no_route;
+use call_best::route_to;
 use count_in_record::is_best;
-use count_in_record::is_last_ttl;
 use packet_codec::output::flags_elsewhere;
 use packet_codec::output::flags_here;
 use packet_codec::output::pass_on;
+use rules::Ogm;
 use rules::Received;
 use rules::Route;
 use rules::limits::TTL_LEAST;
@@ -17,64 +17,53 @@ use table_originators::record_at;
 use table_record::route_of;
 use wire::Fault;
 ghost use mathlib.Core.Path.{_≡_};
-ghost use mathlib.Core.Bool.{true, _&&_, _||_};
+ghost use mathlib.Core.Bool.{_&&_, _||_};
 ghost use lib.Dec.{leb, eqb};
 ghost use Rattle.wire.specs.Packet.{header};
-ghost use Rattle.rules.specs.Settings.{ttlLeast};
-ghost use Rattle.rules.specs.Calls.{ReceiveArgs, receive, received, refusal};
+ghost use Rattle.rules.specs.Calls.{received, receivedAs, answeredWriting};
 ghost use Rattle.rules.specs.Rules as R;
+ghost use Rattle.rules.specs.Settings.{ttlLeast};
 ghost use Rattle.rules.specs.Table.{table};
-ghost use Rattle.rules.specs.WellFormed.{wellFormed};
 ghost use Rattle.table_layout.specs.Cells.{encode, decode};
 ghost use Rattle.table_layout.specs.Facts.{Knows};
 ghost use Rattle.table_originators.specs.Originators.{Stands};
-ghost use Rattle.call_receive_arrival.specs.Receiving.{callOf, Replies, verdictOf, Fits, concluded};
+ghost use Rattle.call_receive_arrival.specs.Receiving.{callOf, refusedBy, verdictOf, Ends, Fits, concluded};
 
-// A received message: its link, when it came, and what its packet says.
+// A received message: who sent it, by which interface it came, what its packet says, and what a record is told of it.
 pub struct Arrival {
     pub sender: u32,
     pub interface: u64,
-    pub link: u64,
-    pub time: u64,
     pub flags: u8,
-    pub ttl: u8,
-    pub sequence: u16,
     pub originator: u32,
+    pub ogm: Ogm,
 }
 
-// The answer to a refused packet.
-pub fn refused(fault: Fault) -> Received
-    ensures { λ r. ⌜ ((a : ReceiveArgs) → received r ≡ refusal (receive a) fault .answer) ⌝ }
+// The answer, put together here alone.
+fn received_as(number: u64, place: u64, flags: u8, route: Route) -> Received
+    ensures { λ r. ⌜ r ≡ receivedAs number place flags route ⌝ }
 {
-    Received {
-        number: fault.number,
-        place: fault.place,
-        flags: 0,
-        route: no_route(),
-    }
-}
-
-// The answer of a verdict that writes nothing, on the cells as the call leaves them.
-pub fn answered(cells: &[u64], number: u64, originator: u32) -> Received
-    requires { ⌜ Knows (now cells) ⌝ }
-    ensures { λ r. ⌜ r ≡ verdictOf (decode (now (cells .entry))) number originator ⌝ }
-{
-    let route = route_to(cells, originator);
     Received {
         number,
-        place: 0,
-        flags: 0,
+        place,
+        flags,
         route,
     }
 }
 
-// Ends with a verdict that changes only the time.
+// The answer to a refused packet.
+pub fn refused(fault: Fault) -> Received
+    ensures { λ r. ⌜ r ≡ refusedBy fault ⌝ }
+{
+    received_as(fault.number, fault.place, 0, no_route())
+}
+
+// Ends with a verdict that writes nothing: the time is set, and the route is the originator's in the cells as the call leaves them.
 pub fn verdict(cells: &mut [u64], number: u64, time: u64, originator: u32) -> Received
-    requires { ⌜ Knows (now cells) × (wellFormed (R.withTime table (decode (now cells)) time) ≡ true) ⌝ }
-    ensures { λ r. ⌜ (r ≡ verdictOf (decode (now (cells .entry))) number originator) × (now (cells .exit) ≡ encode (R.withTime table (decode (now (cells .entry))) time)) ⌝ }
+    requires { ⌜ Ends (now cells) time ⌝ }
+    ensures { λ r. ⌜ ((e : Ends (now (cells .entry)) time) → (r ≡ verdictOf (e .state) number originator) × (now (cells .exit) ≡ encode (R.withTime table (e .state) time))) ⌝ }
 {
     cells[TIME] = time;
-    answered(cells, number, originator)
+    received_as(number, 0, 0, route_to(cells, originator))
 }
 
 // Ends with 26 or 25. `best` says that the link is bidirectional and best, and the message no duplicate or with the last TTL.
@@ -87,27 +76,17 @@ pub fn conclude(
     route: Route,
 ) -> Received
     requires { ⌜ Fits (now packet) (now out) m ⌝ }
-    ensures { λ r. ⌜ Replies (now (out .exit)) r (R.conclude (callOf (now (packet .entry)) (now (out .entry)) m) (header (now (packet .entry))) bidirectional (leb ttlLeast (m .ttl) && (eqb (m .sender) (m .originator) || best)) route) ⌝ }
+    ensures { λ r. ⌜ answeredWriting (received r) (now (out .exit)) ≡ R.conclude (callOf (now (packet .entry)) (now (out .entry)) m) (header (now (packet .entry))) bidirectional (leb ttlLeast (m .ogm .ttl) && (eqb (m .sender) (m .originator) || best)) route ⌝ }
 {
     let direct = m.sender == m.originator;
-    if !((TTL_LEAST <= m.ttl) & (direct | best)) {
-        return Received {
-            number: KEPT,
-            place: 0,
-            flags: 0,
-            route,
-        };
+    if !((TTL_LEAST <= m.ogm.ttl) & (direct | best)) {
+        return received_as(KEPT, 0, 0, route);
     }
     pass_on(packet, out, flags_here(direct, bidirectional, m.flags));
-    Received {
-        number: PASSED_ON,
-        place: 0,
-        flags: flags_elsewhere(m.flags),
-        route,
-    }
+    received_as(PASSED_ON, 0, flags_elsewhere(m.flags), route)
 }
 
-// Ends with 26 or 25 by the originator's record, at place i, as the call leaves it.
+// Ends with 26 or 25 by the originator's record, at place i, as the call leaves it. `fresh` was judged before counting.
 pub fn conclude_by(
     cells: &[u64],
     packet: &[u8],
@@ -115,14 +94,13 @@ pub fn conclude_by(
     m: Arrival,
     i: usize,
     bidirectional: bool,
-    duplicate: bool,
+    fresh: bool,
 ) -> Received
     requires { ⌜ Fits (now packet) (now out) m × Stands (now cells) (m .originator) i ⌝ }
-    ensures { λ r. ⌜ Replies (now (out .exit)) r (concluded (decode (now (cells .entry))) (callOf (now (packet .entry)) (now (out .entry)) m) (header (now (packet .entry))) bidirectional duplicate) ⌝ }
+    ensures { λ r. ⌜ answeredWriting (received r) (now (out .exit)) ≡ concluded (decode (now (cells .entry))) (callOf (now (packet .entry)) (now (out .entry)) m) (header (now (packet .entry))) bidirectional fresh ⌝ }
 {
     let row = record_at(cells, i);
-    let best = bidirectional
-        & (is_best(row, m.link) & (!duplicate | is_last_ttl(row, m.ttl as u64)));
+    let best = bidirectional & (is_best(row, m.ogm.link) & fresh);
     let route = route_of(row, cells[WINDOW] as u32);
     conclude(packet, out, m, bidirectional, best, route)
 }

@@ -2,6 +2,8 @@
 use call_receive_arrival::Arrival;
 use packet_check::packet_fault;
 use packet_codec::message::read;
+use rules::Ogm;
+use rules::limits::INTERFACES_MOST;
 use table_layout::OWN_0;
 use table_layout::OWN_1;
 use table_layout::OWN_2;
@@ -9,7 +11,6 @@ use table_layout::OWN_3;
 use table_layout::TIME;
 use table_layout::USED;
 use table_layout::VERSION;
-use table_record::INTERFACES;
 use wire::Fault;
 use wire::refusal;
 use wire::refusals::NOT_IN_USE;
@@ -38,15 +39,18 @@ pub fn read_arrival(packet: &[u8], sender: u32, interface: u64, time: u64) -> Ar
     ensures { λ r. ⌜ (r ≡ arrivalOf (now (packet .entry)) sender interface time) × ((o : List ℕ) → typed (C.receive (argsOf (now (packet .entry)) sender interface time o)) ≡ true) ⌝ }
 {
     let h = read(packet);
+    let ogm = Ogm {
+        link: sender as u64 * INTERFACES_MOST + interface,
+        sequence: h.sequence,
+        ttl: h.ttl,
+        time,
+    };
     Arrival {
         sender,
         interface,
-        link: sender as u64 * INTERFACES + interface,
-        time,
         flags: h.flags,
-        ttl: h.ttl,
-        sequence: h.sequence,
         originator: h.originator,
+        ogm,
     }
 }
 

@@ -16,17 +16,17 @@ use Rattle.wire.specs.Packet.{header}
 use Rattle.wire.specs.Check.{numbered}
 use Rattle.rules.specs.Settings.{interfaceMost, neighbourMost}
 use Rattle.rules.specs.Calls.{interfaceOf, receive}
-use Rattle.rules.specs.Rules.{lastSent, linkBy, echoTests, isEcho, withRows, refuse, verdict, takeEcho}
+use Rattle.rules.specs.Rules.{lastSent, linkBy, echoTests, isEcho, withTime, refuse, verdict, takeEcho}
 use Rattle.rules.specs.Table.{TableRows, TableState, recordEcho, table}
 use Rattle.rules.specs.WellFormed.{wellFormed}
 use Rattle.rules.proofs.Links.{interface-of}
-use Rattle.table_layout.specs.Layout.{rowsAt, timeAt, neighboursFrom}
+use Rattle.table_layout.specs.Layout.{rowsAt, neighboursFrom}
 use Rattle.table_layout.specs.Cells.{encode, decode}
 use Rattle.table_changes.specs.Changes as changed
-use Rattle.table_changes.proofs.Parts.{time-set, rows-back}
+use Rattle.table_changes.proofs.Parts.{rows-back}
 use Rattle.table_neighbours.specs.Neighbours.{Recorded, NoRoom}
 use Rattle.call_receive_arrival.specs.declared.Arrival.{Arrival}
-use Rattle.call_receive_arrival.specs.Receiving.{callOf, after, Fits, Taken, Echoes}
+use Rattle.call_receive_arrival.specs.Receiving.{callOf, after, Ends, Fits, Taken, Echoes}
 use Rattle.call_receive_arrival.proofs.Ways.{way-9, way-22}
 use Rattle.call_receive_arrival.proofs.Endings.{link-is, sequence-is, kept-by}
 use Rattle.call_receive_arrival.proofs.Rows.{lent, rows-are}
@@ -41,43 +41,45 @@ echo-number c {p} {o} {m} f h =
 
 module _ {c p o : List ℕ} {m : Arrival} (t : Taken c p o m) where
   -- its link, as the rules name it
-  link-key : hasKey (linkBy (callOf p o m)) (decode c .rows) ≡ hasKey (m .link) (pairsOf (getD c rowsAt 0) (lent c))
+  link-key : hasKey (linkBy (callOf p o m)) (decode c .rows) ≡ hasKey (m .ogm .link) (pairsOf (getD c rowsAt 0) (lent c))
   link-key = (λ j. hasKey (sym (link-is (t .fits)) j) (sym (rows-are c) j))
 
   -- there is no room for its row
-  pub full-cells : {y : List ℕ} → NoRoom (getD c rowsAt 0) (lent c) y (m .link) → putMid neighboursFrom 64 c y ≡ c
+  pub full-cells : {y : List ℕ} → NoRoom (getD c rowsAt 0) (lent c) y (m .ogm .link) → putMid neighboursFrom 64 c y ≡ c
   full-cells n = ap (putMid neighboursFrom 64 c) (n .same) ∙ put-same neighboursFrom 64 c
 
-  pub full-way : {y : List ℕ} → NoRoom (getD c rowsAt 0) (lent c) y (m .link) → takeEcho table (decode c) (callOf p o m) (header p) ≡ refuse table (receive (callOf p o m)) (decode c) (numbered 9)
+  pub full-way : {y : List ℕ} → NoRoom (getD c rowsAt 0) (lent c) y (m .ogm .link) → takeEcho table (decode c) (callOf p o m) (header p) ≡ refuse table (receive (callOf p o m)) (decode c) (numbered 9)
   full-way n = way-9 (decode c) (callOf p o m) (header p) (link-key ∙ n .absent) (omega (arith, rows-count c, n .full))
 
   -- or its row takes the number
-  module _ (e : Echoes c m) {y : List ℕ} {n : ℕ} (r : Recorded (getD c rowsAt 0) (lent c) y (m .link) (m .sequence) n) where
+  module _ (e : Echoes c m) {y : List ℕ} {n : ℕ} (r : Recorded (getD c rowsAt 0) (lent c) y (m .ogm .link) (m .ogm .sequence) n) where
     abbrev recorded : TableRows
     recorded = recordEcho (decode c .config) (decode c .sends) (linkBy (callOf p o m)) (decode c .rows)
 
     abbrev pub left : TableState
-    left = withRows table (decode c) (m .time) (decode c .sends) recorded
+    left = changed.withRows recorded (decode c)
 
-    recorded-is : put (m .link) (m .sequence) (pairsOf (getD c rowsAt 0) (lent c)) ≡ recorded
+    recorded-is : put (m .ogm .link) (m .ogm .sequence) (pairsOf (getD c rowsAt 0) (lent c)) ≡ recorded
     unfolding recordEcho
     recorded-is =
         let i : m .interface < interfaceMost = omega (arith, t .interface, t .knows .sized .used-most) in
-        let number : m .sequence ≡ lastSent (decode c .config) (decode c .sends) (interfaceOf (linkBy (callOf p o m))) =
+        let number : m .ogm .sequence ≡ lastSent (decode c .config) (decode c .sends) (interfaceOf (linkBy (callOf p o m))) =
         e ∙ ap (lastSent (decode c .config) (decode c .sends)) (sym (interface-of (m .sender) (m .interface) i)) in
         λ j. put (link-is (t .fits) j) (number j) (rows-are c j)
 
-    pub echo-cells : set (set (putMid neighboursFrom 64 c y) rowsAt n) timeAt (m .time) ≡ encode left
+    pub echo-cells : set (putMid neighboursFrom 64 c y) rowsAt n ≡ encode left
     echo-cells =
-        (λ j. set (set (putMid neighboursFrom 64 (sym (t .knows .cells) j) ((r .cells ∙ ap (pairArea neighbourMost) recorded-is) j)) rowsAt ((r .held ∙ ap length recorded-is) j)) timeAt (m .time))
-        ∙ ap (λ (l : List ℕ). set l timeAt (m .time)) (rows-back (decode c) recorded)
-        ∙ time-set (changed.withRows recorded (decode c)) (m .time)
+        (λ j. set (putMid neighboursFrom 64 (sym (t .knows .cells) j) ((r .cells ∙ ap (pairArea neighbourMost) recorded-is) j)) rowsAt ((r .held ∙ ap length recorded-is) j)) ∙ rows-back (decode c) recorded
 
-    pub echo-way : takeEcho table (decode c) (callOf p o m) (header p) ≡ verdict table (callOf p o m) (header p) 22 left
+    pub echo-way : takeEcho table (decode c) (callOf p o m) (header p) ≡ verdict table (callOf p o m) (header p) 22 (withTime table left (m .ogm .time))
     echo-way =
         way-22 (decode c) (callOf p o m) (header p)
         (⊎-elim (λ h. inl (link-key ∙ h)) (λ h. inr (omega (arith, rows-count c))) (r .room))
 
-    pub echo-kept : after c p o m ≡ takeEcho table (decode c) (callOf p o m) (header p) → wellFormed left ≡ true
+    pub echo-kept : after c p o m ≡ takeEcho table (decode c) (callOf p o m) (header p) → wellFormed (withTime table left (m .ogm .time)) ≡ true
     unfolding verdict
     echo-kept w = kept-by t (w ∙ echo-way)
+
+    -- the table is well-formed once its time is set
+    abbrev pub echo-ends : after c p o m ≡ takeEcho table (decode c) (callOf p o m) (header p) → Ends (set (putMid neighboursFrom 64 c y) rowsAt n) (m .ogm .time)
+    echo-ends w = record { state = left; cells = echo-cells; valid = echo-kept w }

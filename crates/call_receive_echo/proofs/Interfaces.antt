@@ -34,7 +34,7 @@ sent-last q x (some n) = and-true (eqb q n)
 module _ (c : List ℕ) (k : Knows c) where
   -- D, the address, that it has sent, and the number
   pub echo-is : {p o : List ℕ} {m : Arrival} → Fits p o m → m .interface < getD c usedAt 0 → (d : Bool) → d ≡ isD (m .flags)
-      → (d && (eqb (m .originator) (getD c (ownPlace (m .interface) + ownAt) 0) && (eqb (getD c (ownPlace (m .interface) + sentAt) 0) 1 && eqb (m .sequence) (getD c (ownPlace (m .interface) + lastAt) 0)))) ≡ isEcho (decode c .config) (decode c .sends) (callOf p o m) (header p)
+      → (d && (eqb (m .originator) (getD c (ownPlace (m .interface) + ownAt) 0) && (eqb (getD c (ownPlace (m .interface) + sentAt) 0) 1 && eqb (m .ogm .sequence) (getD c (ownPlace (m .interface) + lastAt) 0)))) ≡ isEcho (decode c .config) (decode c .sends) (callOf p o m) (header p)
   unfolding encodeInterface lastSent
   echo-is {p} {o} {m} f h d ed =
       let i = m .interface in

@@ -1,6 +1,5 @@
 // Messages of this node that come back to it.
 use call_receive_arrival::Arrival;
-use call_receive_arrival::answered;
 use call_receive_arrival::refused;
 use call_receive_arrival::verdict;
 use packet_codec::output::is_direct;
@@ -15,7 +14,6 @@ use table_layout::OWN;
 use table_layout::RECORDS_FROM;
 use table_layout::ROWS;
 use table_layout::SENT;
-use table_layout::TIME;
 use table_neighbours::Echo;
 use table_neighbours::record_echo;
 use wire::refusal;
@@ -30,7 +28,7 @@ ghost use Rattle.rules.specs.Table.{table};
 ghost use Rattle.table_layout.specs.Layout.{usedAt};
 ghost use Rattle.table_layout.specs.Cells.{decode};
 ghost use Rattle.table_layout.specs.Facts.{Knows};
-ghost use Rattle.call_receive_arrival.specs.Receiving.{callOf, Leaves, Fits, Taken, Heard, Echoes, ownMessage};
+ghost use Rattle.call_receive_arrival.specs.Receiving.{callOf, Leaves, Fits, Taken, ComesTo, Echoes, ownMessage};
 
 // Whether a message of an own originator is the echo of the receiving interface's last packet, from next to it.
 fn is_echo(cells: &[u64], m: Arrival) -> bool
@@ -40,38 +38,37 @@ fn is_echo(cells: &[u64], m: Arrival) -> bool
     let at = INTERFACES_FROM + m.interface as usize * INTERFACE;
     is_direct(m.flags)
         & ((m.originator as u64 == cells[at + OWN])
-            & ((cells[at + SENT] == 1) & (m.sequence as u64 == cells[at + LAST])))
+            & ((cells[at + SENT] == 1) & (m.ogm.sequence as u64 == cells[at + LAST])))
 }
 
 // The neighbour row of an echo's link takes its number.
 fn take_echo(cells: &mut [u64], m: Arrival) -> Received
-    requires { ⌜ Heard (now cells) m (λ s a h. R.takeEcho table s a h) × Echoes (now cells) m ⌝ }
+    requires { ⌜ ComesTo (now cells) m (λ s a h. R.takeEcho table s a h) × Echoes (now cells) m ⌝ }
     ensures { λ r. ⌜ ((p o : List ℕ) → Taken (now (cells .entry)) p o m → Leaves (now (cells .exit)) o r (R.takeEcho table (decode (now (cells .entry))) (callOf p o m) (header p))) ⌝ }
 {
     let n = cells[ROWS] as usize;
     let e = record_echo(
         &mut cells[NEIGHBOURS_FROM..RECORDS_FROM],
         n,
-        m.link,
-        m.sequence as u64,
+        m.ogm.link,
+        m.ogm.sequence as u64,
     );
     match e {
         Echo::Full => refused(refusal(NEIGHBOURS_FULL)),
         Echo::Rows(rows) => {
             cells[ROWS] = rows as u64;
-            cells[TIME] = m.time;
-            answered(cells, ECHO, m.originator)
+            verdict(cells, ECHO, m.ogm.time, m.originator)
         }
     }
 }
 
 // A message whose originator is an own address.
 pub fn own_message(cells: &mut [u64], m: Arrival) -> Received
-    requires { ⌜ Heard (now cells) m ownMessage ⌝ }
+    requires { ⌜ ComesTo (now cells) m ownMessage ⌝ }
     ensures { λ r. ⌜ ((p o : List ℕ) → Taken (now (cells .entry)) p o m → Leaves (now (cells .exit)) o r (ownMessage (decode (now (cells .entry))) (callOf p o m) (header p))) ⌝ }
 {
     if !is_echo(cells, m) {
-        return verdict(cells, OWN_ORIGINATOR, m.time, m.originator);
+        return verdict(cells, OWN_ORIGINATOR, m.ogm.time, m.originator);
     }
     take_echo(cells, m)
 }

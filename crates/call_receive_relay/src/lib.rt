@@ -1,11 +1,12 @@
 // Messages of other nodes: counted or not, and passed on or not.
-use call_best::best::no_route;
+use call_best::no_route;
 use call_receive_arrival::Arrival;
 use call_receive_arrival::conclude;
 use call_receive_arrival::conclude_by;
 use call_receive_arrival::refused;
 use cells::Found;
 use count_in_record::is_duplicate;
+use count_in_record::is_last_ttl;
 use rules::Received;
 use table_layout::CAPACITY;
 use table_layout::NEIGHBOURS_FROM;
@@ -38,15 +39,23 @@ fn first_heard(
     ensures { λ r. ⌜ Leaves (now (cells .exit)) (now (out .exit)) r (after (now (cells .entry)) (now (packet .entry)) (now (out .entry)) m) ⌝ }
 {
     if !bidirectional {
-        cells[TIME] = m.time;
+        cells[TIME] = m.ogm.time;
         return conclude(packet, out, m, false, false, no_route());
     }
     if cells[CAPACITY] <= cells[RECORDS] {
         return refused(refusal(ORIGINATORS_FULL));
     }
-    make_record(cells, i, m.originator, m.link, m.sequence, m.ttl, m.time);
-    cells[TIME] = m.time;
-    conclude_by(cells, packet, out, m, i, true, false)
+    make_record(
+        cells,
+        i,
+        m.originator,
+        m.ogm.link,
+        m.ogm.sequence,
+        m.ogm.ttl,
+        m.ogm.time,
+    );
+    cells[TIME] = m.ogm.time;
+    conclude_by(cells, packet, out, m, i, true, true)
 }
 
 // A message that is counted in its originator's record, at place i.
@@ -54,11 +63,11 @@ fn count(cells: &mut [u64], packet: &[u8], out: &mut [u8], m: Arrival, i: usize)
     requires { ⌜ Taken (now cells) (now packet) (now out) m × Stands (now cells) (m .originator) i × Counts (now cells) (now packet) (now out) m ⌝ }
     ensures { λ r. ⌜ Leaves (now (cells .exit)) (now (out .exit)) r (after (now (cells .entry)) (now (packet .entry)) (now (out .entry)) m) ⌝ }
 {
-    if !count_record(cells, i, m.link, m.sequence, m.ttl, m.time) {
+    if !count_record(cells, i, m.ogm.link, m.ogm.sequence, m.ogm.ttl, m.ogm.time) {
         return refused(refusal(LINKS_FULL));
     }
-    cells[TIME] = m.time;
-    conclude_by(cells, packet, out, m, i, true, false)
+    cells[TIME] = m.ogm.time;
+    conclude_by(cells, packet, out, m, i, true, true)
 }
 
 // A message of an originator whose record stands at place i.
@@ -73,12 +82,14 @@ fn heard_again(
     requires { ⌜ Decides (now cells) (now packet) (now out) m bidirectional × Stands (now cells) (m .originator) i ⌝ }
     ensures { λ r. ⌜ Leaves (now (cells .exit)) (now (out .exit)) r (after (now (cells .entry)) (now (packet .entry)) (now (out .entry)) m) ⌝ }
 {
-    let duplicate = is_duplicate(record_at(cells, i), cells[WINDOW], m.link, m.sequence);
+    let row = record_at(cells, i);
+    let duplicate = is_duplicate(row, cells[WINDOW], m.ogm.link, m.ogm.sequence);
+    let fresh = !duplicate | is_last_ttl(row, m.ogm.ttl as u64);
     if bidirectional & !duplicate {
         return count(cells, packet, out, m, i);
     }
-    cells[TIME] = m.time;
-    conclude_by(cells, packet, out, m, i, bidirectional, duplicate)
+    cells[TIME] = m.ogm.time;
+    conclude_by(cells, packet, out, m, i, bidirectional, fresh)
 }
 
 // A message that is neither from nor of this node: whether it is counted, and whether passed on.
@@ -87,7 +98,7 @@ pub fn decide(cells: &mut [u64], packet: &[u8], out: &mut [u8], m: Arrival) -> R
     ensures { λ r. ⌜ Leaves (now (cells .exit)) (now (out .exit)) r (after (now (cells .entry)) (now (packet .entry)) (now (out .entry)) m) ⌝ }
 {
     let n = cells[ROWS] as usize;
-    let bidirectional = has_row(&cells[NEIGHBOURS_FROM..RECORDS_FROM], n, m.link);
+    let bidirectional = has_row(&cells[NEIGHBOURS_FROM..RECORDS_FROM], n, m.ogm.link);
     let f = find_record(cells, m.originator);
     match f {
         Found::At(i) => heard_again(cells, packet, out, m, i, bidirectional),

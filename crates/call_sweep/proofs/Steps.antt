@@ -9,22 +9,24 @@ use borrow.Rule.Slice.PartMut.{putMid}
 use lib.Dec.{leb}
 use lib.ListN.{length, take, drop, set, getD}
 use Rattle.lists.specs.Lists.{and, keep, all}
-use Rattle.lists.proofs.Tests.{and-at}
 use Rattle.lists.proofs.Lists.{all-weaken}
 use Rattle.cells.proofs.Lent.{tail-is}
-use Rattle.rules.specs.Calls.{swept}
+use Rattle.rules.specs.declared.Swept.{Swept}
+use Rattle.rules.specs.Calls.{swept, answered}
 use Rattle.rules.specs.Rules.{isExpired, purge}
 use Rattle.rules.specs.Table.{TableRecord, table}
 use Rattle.rules.specs.WellFormed.{recordTests}
 use Rattle.rules.proofs.WellFormed.{Wf, parts}
+use Rattle.rules.proofs.Parts.{record-parts}
 use Rattle.table_layout.specs.Layout.{purgeAt, capacityAt, timeAt, recordsAt, recordsFrom}
 use Rattle.table_layout.specs.Cells.{recordArea, encode, decode}
 use Rattle.table_layout.specs.Facts.{Knows}
 use Rattle.table_changes.specs.Changes.{withTime, withRecords}
+use Rattle.table_changes.specs.Left.{Left}
 use Rattle.table_changes.proofs.Values.{time-read}
 use Rattle.table_layout.proofs.Parts.{records-lent}
 use Rattle.table_changes.proofs.Parts.{time-set, records-back}
-use Rattle.call_sweep.specs.Sweeping.{recordsOf, RecordsHeld, isRecent, Kept, SweptBy}
+use Rattle.call_sweep.specs.Sweeping.{recordsOf, RecordsHeld, isRecent, Kept, purged, sweptAs}
 use Rattle.call_sweep.proofs.Records.{length-records}
 
 -- those that pass a test and those that don't are all
@@ -65,7 +67,7 @@ module _ (c : List ℕ) (k : Knows c) (t : ℕ) (late : getD c timeAt 0 ≤ t) w
   past =
       let w : Wf (decode c) = parts (decode c) (k .valid) in
       all-weaken (λ e. and (recordTests (decode c .config) (decode c .time) e)) (λ e. leb (e .1 .time) t)
-      (λ e h. le-leb (e .1 .time) t (omega (arith, time-read c, leb-true (e .1 .time) (decode c .time) (and-at (recordTests (decode c .config) (decode c .time) e) h 3))))
+      (λ e h. le-leb (e .1 .time) t (omega (arith, time-read c, leb-true (e .1 .time) (decode c .time) (record-parts (decode c .config) (decode c .time) e h .time))))
       (decode c .records) (w .records .each)
 
   held : RecordsHeld (getD c recordsAt 0) t (drop recordsFrom c)
@@ -113,6 +115,6 @@ module _ (c : List ℕ) (k : Knows c) (t : ℕ) (late : getD c timeAt 0 ≤ t) w
         (λ i. set (set (putMid recordsFrom (length (e i) - recordsFrom) (e i) (left i)) recordsAt ((h .held ∙ ap length same) i)) timeAt t)
         ∙ ap (λ (x : List ℕ). set x timeAt t) (records-back (decode c) recent (length (encode (decode c)) - recordsFrom) refl) ∙ time-set (withRecords recent (decode c)) t
 
-    pub swept-all : SweptBy c t (record { number = 0; removed = getD c recordsAt 0 - kept }) (set (set (putMid recordsFrom (length c - recordsFrom) c d) recordsAt kept) timeAt t)
+    pub swept-all : (r : Swept) → r ≡ sweptAs 0 (getD c recordsAt 0 - kept) → Left (purged c t) (answered (swept r)) (set (set (putMid recordsFrom (length c - recordsFrom) c d) recordsAt kept) timeAt t)
     unfolding purge recent
-    swept-all = record { answers = ap (λ (n : ℕ). swept (record { number = 0; removed = n })) removed; leaves = table-is }
+    swept-all r e = record { replies = ap (λ (x : Swept). answered (swept x)) (e ∙ ap (sweptAs 0) removed); leaves = table-is }

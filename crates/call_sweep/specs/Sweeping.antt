@@ -9,11 +9,10 @@ use Rattle.lists.specs.Lists.{keep, all}
 use Rattle.cells.specs.Area.{rowsOf}
 use Rattle.rules.specs.declared.Swept.{Swept}
 use Rattle.rules.specs.Settings.{capacityMost, recordCells}
-use Rattle.rules.specs.Calls.{swept}
 use Rattle.rules.specs.Rules.{Outcome, purge}
 use Rattle.rules.specs.Table.{TableRows, TableRecord, table}
 use Rattle.table_record.specs.Record.{decodeRecord}
-use Rattle.table_layout.specs.Cells.{recordArea, encode, decode}
+use Rattle.table_layout.specs.Cells.{recordArea, decode}
 
 -- the first n records of a part
 abbrev pub recordsOf : (n : ℕ) → List ℕ → List (ℕ × TableRecord)
@@ -41,10 +40,6 @@ pub record Kept (n time p : ℕ) (before after : List ℕ) (kept : ℕ) : Type 0
 abbrev pub purged : List ℕ → (time : ℕ) → Outcome TableRows TableRecord
 purged c t = purge table (decode c) t
 
-pub record SweptBy (c : List ℕ) (time : ℕ) (answer : Swept) (cells : List ℕ) : Type 0 where
-  pub answers : swept answer ≡ purged c time .reply .answer
-  pub leaves : cells ≡ encode (purged c time .state)
-
--- a refused sweep's answer
-abbrev pub refusedBy : (number : ℕ) → Swept
-refusedBy n = record { number = n; removed = 0 }
+-- the answer, put together in one place: 0 or a refusal, and how many records were removed
+abbrev pub sweptAs : (number removed : ℕ) → Swept
+sweptAs n k = record { number = n; removed = k }

@@ -12,15 +12,15 @@ use wire::refusals::NOT_WELL_FORMED;
 use wire::refusals::TIME_BEFORE;
 ghost use mathlib.Core.Path.{_≡_};
 ghost use mathlib.Core.Bool.{not};
-ghost use mathlib.Core.List.{[]};
 ghost use Prim.Native.Nat.{_-_, _≤_};
 ghost use lib.Dec.{ltb};
 ghost use lib.ListN.{getD};
 ghost use Rattle.table_layout.specs.Layout.{timeAt};
 ghost use Rattle.table_layout.specs.Facts.{Knows};
+ghost use Rattle.table_layout.specs.Calls.{Performed};
+ghost use Rattle.table_changes.specs.Left.{Left};
 ghost use Rattle.rules.specs.Calls as C;
-ghost use Rattle.table_changes.specs.Performed.{Performed};
-ghost use Rattle.call_sweep.specs.Sweeping.{RecordsHeld, Kept, SweptBy, refusedBy};
+ghost use Rattle.call_sweep.specs.Sweeping.{RecordsHeld, Kept, purged, sweptAs};
 
 // Where a record's time stands in its row.
 const SEEN: usize = table_record::TIME;
@@ -55,38 +55,35 @@ fn keep_recent(part: &mut [u64], n: usize, time: u64, purge: u64) -> usize
     kept
 }
 
+// The answer, put together here alone.
+fn swept_as(number: u64, removed: u64) -> Swept
+    ensures { λ r. ⌜ r ≡ sweptAs number removed ⌝ }
+{
+    Swept { number, removed }
+}
+
 // Removes the expired records, and sets the time.
 fn sweep_records(cells: &mut [u64], time: u64) -> Swept
     requires { ⌜ Knows (now cells) × (getD (now cells) timeAt 0 ≤ time) ⌝ }
-    ensures { λ r. ⌜ SweptBy (now (cells .entry)) time r (now (cells .exit)) ⌝ }
+    ensures { λ r. ⌜ Left (purged (now (cells .entry)) time) (C.answered (C.swept r)) (now (cells .exit)) ⌝ }
 {
     let n = cells[RECORDS] as usize;
     let purge = cells[PURGE];
     let kept = keep_recent(&mut cells[RECORDS_FROM..], n, time, purge);
     cells[RECORDS] = kept as u64;
     cells[TIME] = time;
-    Swept {
-        number: 0,
-        removed: (n - kept) as u64,
-    }
-}
-
-// The answer to a refused sweep.
-fn refused(number: u64) -> Swept
-    ensures { λ r. ⌜ r ≡ refusedBy number ⌝ }
-{
-    Swept { number, removed: 0 }
+    swept_as(0, (n - kept) as u64)
 }
 
 // Removes the records whose time is more than the purge timeout ago, or refuses.
 pub fn sweep(cells: &mut [u64], time: u64) -> Swept
-    ensures { λ r. ⌜ Performed (now (cells .entry)) (C.sweep time) (C.swept r) [] (now (cells .exit)) ⌝ }
+    ensures { λ r. ⌜ Performed (now (cells .entry)) (C.sweep time) (C.answered (C.swept r)) (now (cells .exit)) ⌝ }
 {
     if !well_formed(cells) {
-        return refused(NOT_WELL_FORMED);
+        return swept_as(NOT_WELL_FORMED, 0);
     }
     if time < cells[TIME] {
-        return refused(TIME_BEFORE);
+        return swept_as(TIME_BEFORE, 0);
     }
     sweep_records(cells, time)
 }

@@ -2,11 +2,10 @@
 use mathlib.Core.Path.{_≡_, refl, ap, _∙_}
 use mathlib.Core.List.{List, [], _∷_, map}
 use mathlib.Core.Bool.{true}
-use Prim.Native.Nat.{ℕ, zero, suc, _+_, _*_, _-_, _≤_, _<_}
-use native.Mathlib.Nat.{add-zero, not-suc-le-zero, le-of-suc-le-suc}
+use Prim.Native.Nat.{ℕ, suc, _+_, _*_, _-_, _≤_, _<_}
+use native.Mathlib.Nat.{add-zero}
 use native.Mathlib.Omega.{arith}
 use lib.ListN.{length, take, drop, getD}
-use lib.Seq.{getD-drop}
 use Rattle.lists.proofs.Lists.{all-true}
 use Rattle.cells.specs.Area.{rowsOf, allZero}
 use Rattle.cells.specs.Pairs.{pairCells, pairRow, pairOf, pairArea, pairsOf}
@@ -46,13 +45,3 @@ pairs-one c at left h = ap (map pairOf) (rows-one pairCells c at left h) ∙ ap 
 
 pub pairs-none : (c : List ℕ) (at left : ℕ) → left ≤ 0 → pairsOf left (drop at c) ≡ []
 pairs-none c at left h = ap (map pairOf) (rows-none pairCells c at left h)
-
--- pair i
-pub pair-of : (n : ℕ) (c : List ℕ) (i : ℕ) (d : ℕ × ℕ) → i < n → getD (pairsOf n c) i d ≡ (getD c (i * pairCells) 0, getD c (i * pairCells + 1) 0)
-pair-of zero c i d h = absurd (not-suc-le-zero h)
-pair-of (suc n) c zero d h = pair-at c 0
-pair-of (suc n) c (suc i) d h =
-    let e : pairCells + i * pairCells ≡ suc i * pairCells = omega arith in
-    let g : pairCells + (i * pairCells + 1) ≡ suc i * pairCells + 1 = omega arith in
-    pair-of n (drop pairCells c) i d (le-of-suc-le-suc h)
-    ∙ (λ j. ((getD-drop pairCells c (i * pairCells) 0 ∙ ap (λ (k : ℕ). getD c k 0) e) j, (getD-drop pairCells c (i * pairCells + 1) 0 ∙ ap (λ (k : ℕ). getD c k 0) g) j))

@@ -1,4 +1,4 @@
--- Maps of numbers in cells: a row of two cells for each pair, the key and what stands under it. Links and neighbour rows lie so.
+-- Maps of numbers in cells: a row of two cells for each pair, the key and what stands under it. Neighbour rows lie so.
 use mathlib.Core.List.{List, [], _∷_, map}
 use Prim.Native.Nat.{ℕ}
 use lib.ListN.{getD}

@@ -1,2 +1,3 @@
--- A table with one thing changed.
+-- A table with one thing changed, and what a step of a call leaves.
 pub mod Changes
+pub mod Left

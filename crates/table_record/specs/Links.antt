@@ -3,11 +3,7 @@ use mathlib.Core.List.{List, [], _∷_, map}
 use Prim.Native.Nat.{ℕ, _*_}
 use lib.ListN.{take, drop, getD}
 use Rattle.cells.specs.Area.{area, rowsOf}
-use Rattle.rules.specs.Settings.{linkMost, linkCells}
-
--- the cells that there are for a record's links
-abbrev pub linkAreaCells : ℕ
-linkAreaCells = linkMost * linkCells
+use Rattle.rules.specs.Settings.{linkCells}
 
 -- from a link to its cells, the key first
 unfoldable pub linkRow : ℕ × ℕ → List ℕ

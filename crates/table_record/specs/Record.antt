@@ -9,11 +9,11 @@ use Rattle.lists.specs.Lists.{and}
 use Rattle.lists.specs.Keyed.{rising}
 use Rattle.cells.specs.Area.{allZero}
 use Rattle.window.specs.Window.{numbers}
-use Rattle.rules.specs.Settings.{Config, linkMost, linkCells, recordHeadCells, recordCells, octets}
+use Rattle.rules.specs.Settings.{Config, linkMost, linkCells, recordHeadCells, linkAreaCells, recordCells, octets}
 use Rattle.rules.specs.Calls.{pairs}
 use Rattle.rules.specs.Table.{TableRecord}
 use Rattle.rules.specs.WellFormed.{recordTests}
-use Rattle.table_record.specs.Links.{linkAreaCells, linkArea, linksFrom}
+use Rattle.table_record.specs.Links.{linkArea, linksFrom}
 
 -- ---- the places of the fields
 

@@ -8,9 +8,14 @@ use Rattle.batman.proofs.batman_receive.Tie as tie
 
 returns : tie.Need-returns
 returns c =
-    let s = c .before .before .before .before .before .before .before .before .before .before in
+    let done = c .before .before .before .before in
+    let lent = done .before .before .before .before in
+    let s = lent .before .before in
     let a = s .args in
-    (c .before .before .before .before .receive .ensures, typed-of (now (a .packet)) (a .sender) (a .time) (omega (arith, s .fits .sender)) (λ k. omega (arith, c .before .before .before .before .before .before .before .before .shared-slice-known .given k)) (omega (arith, s .fits .time)))
+    record {
+      performed = done .receive .ensures;
+      typed = typed-of (now (a .packet)) (a .sender) (a .time) (omega (arith, s .fits .sender)) (λ k. omega (arith, lent .shared-slice-known .given k)) (omega (arith, s .fits .time));
+    }
 
 pub batman-receive-spec : {M : Type 1} → statement M
 batman-receive-spec = tie.close (tie.spec (λ c κs. search needs) (λ c. search needs) (λ c. search needs) returns)

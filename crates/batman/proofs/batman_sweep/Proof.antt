@@ -8,7 +8,7 @@ use Rattle.batman.proofs.batman_sweep.Tie as tie
 returns : tie.Need-returns
 returns c =
     let s = c .before .before .before .before .before in
-    (c .before .before .sweep .ensures, lt-ltb (s .args .time) 18446744073709551616 (omega (arith, s .fits .time)))
+    record { performed = c .before .before .sweep .ensures; typed = lt-ltb (s .args .time) 18446744073709551616 (omega (arith, s .fits .time)) }
 
 pub batman-sweep-spec : {M : Type 1} → statement M
 batman-sweep-spec = tie.close (tie.spec (λ c κs. search needs) (λ c. search needs) returns)

@@ -7,7 +7,6 @@ use lib.ListN.{length}
 use borrow.Author.Tests.{not-true, not-false}
 use Rattle.rules.specs.Settings.{MakeArgs, makeAllowed, interfaceMost}
 use Rattle.rules.proofs.Config.{within-low, within-high}
-use Rattle.table_layout.specs.Calls.{Done}
 use Rattle.call_make.specs.Make.{makeArgs}
 use Rattle.call_make.proofs.Making.{allowed-used, allowed-size, length-fresh, fresh-cells, made-by, not-made}
 use Rattle.call_make.proofs.make.Statement.{statement}
@@ -41,8 +40,7 @@ passed c = sym (c .before .make-allowed .ensures) ∙ not-false _ (c .if1 .left)
 returns : tie.Need-returns
 returns c =
     let s = entry (c .before) in
-    let e = not-made (s .args .cells .now) (given s) (sym (c .before .make-allowed .ensures) ∙ not-true _ (c .if1 .taken)) in
-    (ap (λ (d : Done). d .reply) e, sym (ap (λ (d : Done). d .cells) e))
+    not-made (s .args .cells .now) (given s) (sym (c .before .make-allowed .ensures) ∙ not-true _ (c .if1 .taken))
 
 fresh-rows-requires : tie.Need-fresh-rows-requires
 fresh-rows-requires c κs =
@@ -72,11 +70,9 @@ returns-2 c =
     let s = entry (begun f .before) in
     let xs = s .args .cells .now in
     let h = passed (begun f) in
-    let e = made-by xs (given s) h in (
-      ap (λ (d : Done). d .reply) e,
-      fresh-cells (length xs) (given s) (s .good .1 .1 .0 .1 .0 .1) h (z .clear .last .0) (w .write .last .0) (b .write2 .last .0) (f .before .fresh-head .result) (f .fresh-rows .result)
-          (z .clear .ensures) (f .before .fresh-head .ensures) (f .fresh-rows .ensures) (w .write .ensures) (b .write2 .ensures) ∙ sym (ap (λ (d : Done). d .cells) e),
-    )
+    made-by xs (given s) h _
+    (fresh-cells (length xs) (given s) (s .good .1 .1 .0 .1 .0 .1) h (z .clear .last .0) (w .write .last .0) (b .write2 .last .0) (f .before .fresh-head .result) (f .fresh-rows .result)
+    (z .clear .ensures) (f .before .fresh-head .ensures) (f .fresh-rows .ensures) (w .write .ensures) (b .write2 .ensures))
 
 pub make-spec : {M : Type 1} → statement M
 make-spec =

@@ -1,4 +1,4 @@
--- `sending::drop_rows` meets its contract. Assumes nothing.
+-- `call_own_packet::drop_rows` meets its contract. Assumes nothing.
 use mathlib.Core.Path.{refl}
 use borrow.Author.Needs.{needs}
 use lib.ListN.{length-set}

@@ -1,4 +1,4 @@
--- `sending::mark_sent` meets its contract. Assumes nothing.
+-- `call_own_packet::mark_sent` meets its contract. Assumes nothing.
 use mathlib.Core.Path.{_≡_, ap, _∙_}
 use Prim.Native.Nat.{ℕ, _+_, _-_}
 use native.Mathlib.Omega.{arith}

@@ -1,6 +1,5 @@
--- `sending::send_packet` meets its contract: its steps, one after the other. Assumes nothing.
-use mathlib.Core.List.{List}
-use Prim.Native.Nat.{ℕ, _+_, _-_}
+-- `call_own_packet::send_packet` meets its contract: its steps, one after the other. Assumes nothing.
+use Prim.Native.Nat.{_+_, _-_}
 use native.Mathlib.Omega.{arith}
 use borrow.Author.Needs.{needs}
 use denote.Ref.{now}
@@ -11,24 +10,37 @@ use Rattle.call_own_packet.proofs.Steps.{rows-kept, sent-all}
 use Rattle.call_own_packet.proofs.send_packet.Statement.{statement}
 use Rattle.call_own_packet.proofs.send_packet.Tie as tie
 
+-- ---- places, from the end back
+
+abbrev packet : tie.After-mark-sent → tie.After-write-packet
+packet c = c .before .before .before .before
+
+abbrev numbered : tie.After-write-packet → tie.After-next-number
+numbered c = c .before .before .before .before
+
+abbrev entry : tie.After-next-number → tie.Start
+entry c = c .before .before .before .before .before .before
+
+-- ---- the steps
+
 drop-rows-requires : tie.Need-drop-rows-requires
 drop-rows-requires c κs =
     let marked = c .before .before .before in
-    let s = marked .before .before .before .before .before .before .before .before .before .before .before .before .before .before in
+    let s = entry (numbered (packet marked)) in
     rows-kept (now (s .args .cells)) (s .pre .0) _ _ (marked .mark-sent .ensures)
 
 returns : tie.Need-returns
 returns c =
-    let dropped = c .before .before in
+    let dropped = c .before .before .before in
     let marked = dropped .before .before .before .before in
-    let packet = marked .before .before .before .before in
-    let head = packet .before .before in
-    let numbered = head .before .before in
-    let s = numbered .before .before .before .before .before .before in
-    let cells : List ℕ = now (s .args .cells) in
-    sent-all cells (s .pre .0) (s .args .i) (s .args .time) (s .args .ttl) (s .args .gateway) (s .args .port) (now (s .args .hna)) (now (s .args .out)) (numbered .next-number .result)
-    (next-is cells (s .pre .0) (s .args .i) (s .pre .1) (ownPlace (s .args .i) + interfaceCells - ownPlace (s .args .i)) (numbered .next-number .result) (omega arith) (numbered .next-number .ensures))
-    (head .own-header .result) (packet .write-packet .result) _ _ _ (head .own-header .ensures) (packet .write-packet .ensures .0) (packet .write-packet .ensures .1) (marked .mark-sent .ensures) (dropped .drop-rows .ensures)
+    let p = packet marked in
+    let head = p .before .before in
+    let number = numbered p .next-number in
+    let s = entry (numbered p) in
+    let a = s .args in
+    sent-all (now (a .cells)) (s .pre .0) (a .i) (a .time) (a .ttl) (a .gateway) (a .port) (now (a .hna)) (now (a .out)) (number .result)
+    (next-is (now (a .cells)) (s .pre .0) (a .i) (s .pre .1) (ownPlace (a .i) + interfaceCells - ownPlace (a .i)) (number .result) (omega arith) (number .ensures)) (head .own-header .result)
+    (p .write-packet .result) _ _ _ (head .own-header .ensures) (p .write-packet .ensures .0) (p .write-packet .ensures .1) (marked .mark-sent .ensures) (dropped .drop-rows .ensures) _ (c .written-as .ensures)
 
 pub send-packet-spec : {M : Type 1} → statement M
 send-packet-spec =
@@ -46,6 +58,7 @@ send-packet-spec =
     (λ c κs. search needs)
     (λ c κs. search needs)
     drop-rows-requires
+    (λ c κs. search needs)
     (λ c. search needs)
     (λ c. search needs)
     returns)

@@ -1,4 +1,4 @@
--- `own_packets::next_number` meets its contract. Assumes nothing.
+-- `call_own_packet_checks::next_number` meets its contract. Assumes nothing.
 use borrow.Author.Needs.{needs}
 use denote.Ref.{now}
 use Rattle.call_own_packet_checks.proofs.Message.{one-more, the-first}

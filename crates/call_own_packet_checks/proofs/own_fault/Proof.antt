@@ -1,4 +1,4 @@
--- `own_packets::own_fault` meets its contract. Assumes nothing.
+-- `call_own_packet_checks::own_fault` meets its contract. Assumes nothing.
 use mathlib.Core.Path.{_≡_, sym, ap, _∙_}
 use borrow.Author.Needs.{needs}
 use denote.Ref.{now}
@@ -8,8 +8,16 @@ use Rattle.call_own_packet_checks.proofs.Refusals.{not-in-use, before, 
 use Rattle.call_own_packet_checks.proofs.own_fault.Statement.{statement}
 use Rattle.call_own_packet_checks.proofs.own_fault.Tie as tie
 
+-- ---- the function's entry, from each place
+
+abbrev from-else2 : tie.Else2 → tie.Start
+from-else2 c = c .before .before .before .before .before .before
+
+abbrev from-else5 : tie.Else5 → tie.Start
+from-else5 c = from-else2 (c .before .before .before .before .before)
+
 -- the HNA octets have no fault
-fine : (c : tie.Else5) → faultOf (writtenFault (now (c .before .before .before .before .before .before .before .before .before .before .before .args .hna))) .number ≡ 0
+fine : (c : tie.Else5) → faultOf (writtenFault (now (from-else5 c .args .hna))) .number ≡ 0
 fine c = sym (ap (λ (f : Fault). f .number) (c .before .before .written-fault .ensures)) ∙ c .if5 .left
 
 returns : tie.Need-returns

@@ -1,4 +1,4 @@
--- `own_packets::own_header` meets its contract. Assumes nothing.
+-- `call_own_packet_checks::own_header` meets its contract. Assumes nothing.
 use borrow.Author.Needs.{needs}
 use denote.Ref.{now}
 use Rattle.call_own_packet_checks.proofs.Message.{version-is, own-is}

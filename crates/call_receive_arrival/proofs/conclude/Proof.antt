@@ -1,47 +1,51 @@
--- `arrivals::conclude` meets its contract. Assumes nothing.
+-- `call_receive_arrival::conclude` meets its contract: 25, or 26 with the copy. Assumes nothing.
 use borrow.Author.Tests.{not-true, not-false}
 use Rattle.call_receive_arrival.proofs.Endings.{kept-replies, ttl-positive, passed-replies}
 use borrow.Author.Needs.{needs}
 use Rattle.call_receive_arrival.proofs.conclude.Statement.{statement}
 use Rattle.call_receive_arrival.proofs.conclude.Tie as tie
-use Rattle.call_receive_arrival.proofs.conclude.Reads as reads
-use Rattle.call_receive_arrival.proofs.conclude.Lts as lts
-use Rattle.packet_codec.proofs.output.flags_elsewhere.Reads as flags-elsewhere-reads
-use Rattle.packet_codec.proofs.output.flags_here.Reads as flags-here-reads
-use Rattle.packet_codec.proofs.output.pass_on.Reads as pass-on-reads
+
+-- ---- the function's entry, from each place
+
+abbrev from-then1 : tie.Then1 → tie.Start
+from-then1 c = c .before .before .before .before .before
+
+abbrev from-else1 : tie.Else1 → tie.Start
+from-else1 c = c .before .before .before .before .before
+
+-- ---- the ends
 
 returns : tie.Need-returns
 returns c =
-    let s = c .before .before .before .before .before in
-    kept-replies (s .pre) (s .args .bidirectional) (s .args .best) (s .args .route) (not-true _ (c .if1 .taken))
-
-flags-here-requires : tie.Need-flags-here-requires
-flags-here-requires c κs = search needs
+    let t = c .before in
+    let s = from-then1 t in
+    kept-replies (s .pre) (s .args .bidirectional) (s .args .best) (s .args .route) (not-true _ (t .if1 .taken)) _ (c .received-as .ensures)
 
 pass-on-requires : tie.Need-pass-on-requires
 pass-on-requires c κs =
-    let s = c .before .before .before .before .before .before .before in
-    (s .pre .size, s .pre .room, ttl-positive (s .pre) (s .args .bidirectional) (s .args .best) (s .args .route) (not-false _ (c .before .before .if1 .left)))
-
-flags-elsewhere-requires : tie.Need-flags-elsewhere-requires
-flags-elsewhere-requires c κs = search needs
-
-same-length : tie.Need-same-length
-same-length c = search needs
+    let e = c .before .before in
+    let s = from-else1 e in
+    (s .pre .size, s .pre .room, ttl-positive (s .pre) (s .args .bidirectional) (s .args .best) (s .args .route) (not-false _ (e .if1 .left)))
 
 returns-2 : tie.Need-returns-2
 returns-2 c =
-    let s = c .before .before .before .before .before .before .before .before .before .before .before in
-    passed-replies (s .pre) (s .args .bidirectional) (s .args .best) (s .args .route) (not-false _ (c .before .before .before .before .before .before .if1 .left)) _ _ _
-    (c .before .before .before .before .flags-here .ensures) (c .flags-elsewhere .ensures) (c .before .before .before .pass-on .ensures)
+    let elsewhere = c .before in
+    let copy = elsewhere .before .before .before in
+    let here = copy .before in
+    let e = here .before .before in
+    let s = from-else1 e in
+    passed-replies (s .pre) (s .args .bidirectional) (s .args .best) (s .args .route) (not-false _ (e .if1 .left)) _ _ _ (here .flags-here .ensures) (elsewhere .flags-elsewhere .ensures) (copy .pass-on .ensures)
+    _ (c .received-as2 .ensures)
 
 pub conclude-spec : {M : Type 1} → statement M
 conclude-spec =
     tie.close
     (tie.spec
+    (λ c κs. search needs)
     returns
-    flags-here-requires
+    (λ c κs. search needs)
     pass-on-requires
-    flags-elsewhere-requires
-    same-length
+    (λ c κs. search needs)
+    (λ c κs. search needs)
+    (λ c. search needs)
     returns-2)

@@ -1,38 +1,45 @@
--- `arrivals::verdict` meets its contract. Assumes nothing.
-use mathlib.Core.Path.{ap, _∙_}
+-- `call_receive_arrival::verdict` meets its contract: the time is set, and the route read from the table that is left. Assumes nothing.
+use mathlib.Core.Path.{_≡_, sym, ap, _∙_}
+use mathlib.Core.List.{List}
+use Prim.Native.Nat.{ℕ}
+use native.Mathlib.Omega.{arith}
 use denote.Ref.{now}
+use lib.ListN.{length, set}
+use Rattle.rules.specs.declared.Route.{Route}
+use Rattle.rules.specs.Calls.{receivedAs}
 use Rattle.rules.specs.Rules.{withTime}
 use Rattle.rules.specs.Table.{TableState, table}
-use Rattle.table_layout.specs.Cells.{decode}
-use Rattle.call_receive_arrival.specs.Receiving.{verdictOf}
-use Rattle.call_receive_arrival.proofs.Tables.{time-cells, left-knows, left-decode}
+use Rattle.table_layout.specs.Layout.{timeAt}
+use Rattle.table_layout.specs.Cells.{encode, decode}
+use Rattle.table_layout.proofs.Parts.{encoded-size}
+use Rattle.table_changes.proofs.Parts.{time-set}
+use Rattle.call_receive_arrival.specs.Receiving.{verdictOf, Ends}
+use Rattle.call_receive_arrival.proofs.Tables.{left-knows, left-decode}
 use borrow.Author.Needs.{needs}
 use Rattle.call_receive_arrival.proofs.verdict.Statement.{statement}
 use Rattle.call_receive_arrival.proofs.verdict.Tie as tie
-use Rattle.call_receive_arrival.proofs.verdict.Reads as reads
-use Rattle.call_receive_arrival.proofs.verdict.Lts as lts
-use Rattle.call_receive_arrival.proofs.answered.Reads as answered-reads
+
+-- the cells that are left
+left : {c : List ℕ} {t : ℕ} (e : Ends c t) → set c timeAt t ≡ encode (withTime table (e .state) t)
+left {c} {t} e = ap (λ (l : List ℕ). set l timeAt t) (e .cells) ∙ time-set (e .state) t
 
 slice-write-cells : tie.Need-slice-write-cells
-slice-write-cells c = search needs
+slice-write-cells c = let e = c .before .pre in omega (arith, encoded-size (e .state), ap length (e .cells))
 
-answered-requires : tie.Need-answered-requires
-answered-requires c κs =
+route-to-requires : tie.Need-route-to-requires
+route-to-requires c κs =
     let s = c .before .before in
-    let cells = now (s .args .cells) in
-    left-knows (withTime table (decode cells) (s .args .time)) (time-cells cells (s .pre .0) (s .args .time)) (s .pre .1)
-
-same-length : tie.Need-same-length
-same-length c = search needs
+    let e = s .pre in
+    left-knows (withTime table (e .state) (s .args .time)) (left e) (e .valid)
 
 returns : tie.Need-returns
-returns c =
-    let s = c .before .before .before in
-    let cells = now (s .args .cells) in
-    let after = time-cells cells (s .pre .0) (s .args .time) in (
-      c .answered .ensures ∙ ap (λ (x : TableState). verdictOf x (s .args .number) (s .args .originator)) (left-decode (withTime table (decode cells) (s .args .time)) after (s .pre .1)),
-      after,
+returns c e =
+    let s = c .before .before .before .before in (
+      c .received-as .ensures
+          ∙ ap (receivedAs (s .args .number) 0 0) (c .before .route-to .ensures)
+          ∙ ap (λ (x : TableState). verdictOf x (s .args .number) (s .args .originator)) (left-decode (withTime table (e .state) (s .args .time)) (left e) (e .valid)),
+      left e,
     )
 
 pub verdict-spec : {M : Type 1} → statement M
-verdict-spec = tie.close (tie.spec slice-write-cells answered-requires same-length returns)
+verdict-spec = tie.close (tie.spec slice-write-cells route-to-requires (λ c κs. search needs) (λ c. search needs) returns)

@@ -1,4 +1,4 @@
--- `incoming::is_listed` meets its contract. Assumes nothing.
+-- `call_receive_checks::is_listed` meets its contract: one to four cells are compared. Assumes nothing.
 use denote.Ref.{now}
 use Rattle.call_receive_checks.proofs.Listed.{listed-is}
 use borrow.Author.Needs.{needs}

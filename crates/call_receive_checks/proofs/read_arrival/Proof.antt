@@ -1,4 +1,4 @@
--- `incoming::read_arrival` meets its contract. Assumes nothing.
+-- `call_receive_checks::read_arrival` meets its contract: the message, and that the call's arguments are in the ranges of their types. Assumes nothing.
 use mathlib.Core.Path.{ap}
 use native.Mathlib.Omega.{arith}
 use denote.Ref.{now}
@@ -17,12 +17,9 @@ returns c =
       ap (λ (h : Header). record {
         sender = a .sender;
         interface = a .interface;
-        link = linkOf (a .sender) (a .interface);
-        time = a .time;
         flags = h .flags;
-        ttl = h .ttl;
-        sequence = h .sequence;
         originator = h .originator;
+        ogm = record { link = linkOf (a .sender) (a .interface); sequence = h .sequence; ttl = h .ttl; time = a .time };
       }) (c .read .ensures),
       λ o. typed-of (now (a .packet)) (a .sender) (a .time) (omega (arith, s .fits .sender)) (λ k. omega (arith, c .before .shared-slice-known .given k)) (omega (arith, s .fits .time)),
     )

@@ -1,4 +1,4 @@
--- `relaying::count` meets its contract. Assumes nothing.
+-- `call_receive_relay::count` meets its contract: 11, or counted and concluded by the record as it is then. Assumes nothing.
 use mathlib.Core.Bool.{true, false}
 use borrow.Author.Tests.{not-true, not-false}
 use denote.Ref.{now}
@@ -18,7 +18,7 @@ use Rattle.call_receive_arrival.proofs.refused.Reads as refused-reads
 use Rattle.wire.proofs.refusal.Reads as refusal-reads
 
 -- the message is counted
-made : (c : tie.Else1) → let s = c .before .before .before .before .before .before .before .before in Concludes (now (s .args .cells)) (now (s .args .packet)) (now (s .args .out)) (set (c .before .before .before .count-record .last .0) timeAt (s .args .m .time)) (s .args .m) (s .args .i) true false
+made : (c : tie.Else1) → let s = c .before .before .before .before .before .before .before .before in Concludes (now (s .args .cells)) (now (s .args .packet)) (now (s .args .out)) (set (c .before .before .before .count-record .last .0) timeAt (s .args .m .ogm .time)) (s .args .m) (s .args .i) true true
 made c =
     let s = c .before .before .before .before .before .before .before .before in
     count-made (s .pre .0) (s .pre .2) (s .pre .1) (c .before .before .before .count-record .ensures (s .args .m .originator) (s .pre .1)) (not-false _ (c .if1 .left))

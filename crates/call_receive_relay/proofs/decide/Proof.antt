@@ -18,7 +18,7 @@ has-row-requires c κs =
 decides : (c : tie.After-has-row) → let s = c .before .before .before .before .before .before .before .args in Decides (now (s .cells)) (now (s .packet)) (now (s .out)) (s .m) (c .has-row .result)
 decides c =
     let s = c .before .before .before .before .before .before .before in
-    record { taken = s .pre .0; link = c .has-row .ensures ∙ ap (hasKey (s .args .m .link)) (rows-are (now (s .args .cells))); ruled = s .pre .1 }
+    record { taken = s .pre .0; link = c .has-row .ensures ∙ ap (hasKey (s .args .m .ogm .link)) (rows-are (now (s .args .cells))); ruled = s .pre .1 }
 
 heard-again-requires : tie.Need-heard-again-requires
 heard-again-requires c κs =

@@ -1,4 +1,4 @@
--- `relaying::first_heard` meets its contract. Assumes nothing.
+-- `call_receive_relay::first_heard` meets its contract: not counted, 10, or the record is made. Assumes nothing.
 use mathlib.Core.Bool.{true, false}
 use native.Mathlib.Omega.{arith}
 use borrow.Author.Tests.{not-true, not-false}
@@ -18,11 +18,11 @@ use Rattle.table_originators.proofs.make_record.Reads as make-record-reads
 use Rattle.call_receive_arrival.proofs.conclude.Reads as conclude-reads
 use Rattle.call_receive_arrival.proofs.conclude_by.Reads as conclude-by-reads
 use Rattle.call_receive_arrival.proofs.refused.Reads as refused-reads
-use Rattle.call_best.proofs.best.no_route.Reads as no-route-reads
+use Rattle.call_best.proofs.no_route.Reads as no-route-reads
 use Rattle.wire.proofs.refusal.Reads as refusal-reads
 
 -- the record is made
-made : (c : tie.After-make-record) → let s = c .before .before .before .before .before .before .before .before .before in Concludes (now (s .args .cells)) (now (s .args .packet)) (now (s .args .out)) (set (c .make-record .last .0) timeAt (s .args .m .time)) (s .args .m) (s .args .i) true false
+made : (c : tie.After-make-record) → let s = c .before .before .before .before .before .before .before .before .before in Concludes (now (s .args .cells)) (now (s .args .packet)) (now (s .args .out)) (set (c .make-record .last .0) timeAt (s .args .m .ogm .time)) (s .args .m) (s .args .i) true true
 made c =
     let s = c .before .before .before .before .before .before .before .before .before in
     first-made (s .pre .0) (s .pre .1) (not-false _ (c .before .before .before .before .before .if1 .left)) (omega (arith, c .before .before .if2 .left)) (c .make-record .ensures)

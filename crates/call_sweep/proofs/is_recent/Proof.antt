@@ -1,4 +1,4 @@
--- `sweeping::is_recent` meets its contract. Assumes nothing.
+-- `call_sweep::is_recent` meets its contract. Assumes nothing.
 use mathlib.Core.Path.{_≡_, refl}
 use mathlib.Core.Bool.{Bool, true, false, not}
 use Prim.Native.Nat.{ℕ, _-_}

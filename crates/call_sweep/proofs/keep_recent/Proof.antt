@@ -1,4 +1,4 @@
--- `sweeping::keep_recent` meets its contract: the loop's invariant is a pass over the records (`Records.Going`). Assumes nothing.
+-- `call_sweep::keep_recent` meets its contract: the loop's invariant is a pass over the records (`Records.Going`). Assumes nothing.
 use mathlib.Core.Path.{sym, _∙_}
 use mathlib.Core.Logic.{⊎-elim}
 use Prim.Native.Nat.{_-_}

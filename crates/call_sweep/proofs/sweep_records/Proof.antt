@@ -1,4 +1,4 @@
--- `sweeping::sweep_records` meets its contract. Assumes nothing.
+-- `call_sweep::sweep_records` meets its contract: the pass over the records, and what it leaves. Assumes nothing.
 use borrow.Author.Needs.{needs}
 use lib.ListN.{length-set}
 use denote.Ref.{now}
@@ -16,8 +16,9 @@ slice-write-cells-2 c = simp length-set (search needs)
 
 returns : tie.Need-returns
 returns c =
-    let s = c .before .before .before .before .before .before .before in
-    swept-all (now (s .args .cells)) (s .pre .0) (s .args .time) (s .pre .1) _ _ (c .before .before .keep-recent .ensures)
+    let kept = c .before .before .before in
+    let s = kept .before .before .before .before .before in
+    swept-all (now (s .args .cells)) (s .pre .0) (s .args .time) (s .pre .1) _ _ (kept .keep-recent .ensures) _ (c .swept-as .ensures)
 
 pub sweep-records-spec : {M : Type 1} → statement M
 sweep-records-spec =
@@ -32,5 +33,6 @@ sweep-records-spec =
     (λ c. search needs)
     slice-write-cells-2
     (λ c. search needs)
+    (λ c κs. search needs)
     (λ c. search needs)
     returns)

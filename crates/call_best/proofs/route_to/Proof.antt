@@ -1,4 +1,4 @@
--- `routing::best::route_to` meets its contract: the route of the record that is found, or none. Assumes nothing.
+-- `call_best::route_to` meets its contract: the route of the record that is found, or none. Assumes nothing.
 use borrow.Author.Needs.{needs}
 use mathlib.Core.Path.{refl, sym, ap, _∙_, subst}
 use mathlib.Core.List.{List}
@@ -9,13 +9,16 @@ use Rattle.rules.specs.Table.{table}
 use Rattle.table_record.specs.Record.{decodeRecord, Held}
 use Rattle.table_layout.specs.Cells.{decode}
 use Rattle.table_originators.specs.Originators.{Stands, RecordFound}
-use Rattle.call_best.proofs.best.route_to.Statement.{statement}
-use Rattle.call_best.proofs.best.route_to.Tie as tie
+use Rattle.call_best.proofs.route_to.Statement.{statement}
+use Rattle.call_best.proofs.route_to.Tie as tie
+
+abbrev from-found : tie.After-f → tie.Start
+from-found c = c .before .before .before .before
 
 -- the record stands at place i
-stands : (c : tie.After-f) → Stands (c .before .before .before .before .args .cells .now) (c .before .before .before .before .args .originator) (c .f .given .0 .0)
+stands : (c : tie.After-f) → let a = from-found c .args in Stands (a .cells .now) (a .originator) (c .f .given .0 .0)
 stands c =
-    let a = c .before .before .before .before .args in
+    let a = from-found c .args in
     subst (RecordFound (a .cells .now) (a .originator)) (c .f .given .1) (c .before .before .find-record .ensures)
 
 route-of-requires : tie.Need-route-of-requires
@@ -25,8 +28,9 @@ returns : tie.Need-returns
 unfolding decode
 returns c =
     let r = c .before .before in
-    let κ = decode (r .before .before .before .before .before .before .args .cells .now) .config in
-    c .route-of .ensures κ refl ∙ ap (routeOf table κ) (ap (λ (row : List ℕ). some (decodeRecord row .1)) (r .record-at .ensures) ∙ sym (stands (r .before .before) .found))
+    let f = r .before .before in
+    let κ = decode (from-found f .args .cells .now) .config in
+    c .route-of .ensures κ refl ∙ ap (routeOf table κ) (ap (λ (row : List ℕ). some (decodeRecord row .1)) (r .record-at .ensures) ∙ sym (stands f .found))
 
 returns-2 : tie.Need-returns-2
 returns-2 c =
