@@ -3,7 +3,7 @@ use mathlib.Core.Path.{_≡_, refl, sym}
 use mathlib.Core.Bool.{Bool, true, false, _&&_, _||_, not}
 use mathlib.Core.Logic.{_⊎_, inl, inr}
 use mathlib.Core.Option.{Option, none, some}
-use mathlib.Core.List.{List, [], _∷_}
+use mathlib.Core.List.{[], _∷_}
 use Prim.Native.Nat.{ℕ, _≤_, _<_}
 use lib.Dec.{eqb}
 use lib.ListN.{length}
@@ -21,7 +21,7 @@ use Rattle.rules.specs.Settings.{Config, neighbourMost, linkMost, isOwn, isBroa
 use Rattle.rules.specs.Calls.{ReceiveArgs, receive}
 use Rattle.rules.specs.declared.Ogm.{Ogm}
 use Rattle.rules.specs.Rules.{sequenceOf, OutcomeOf, branch, unless, receiveFault, linkBy, message, isEcho, isDuplicate, isFresh, withTime, withRows, withRecords, refuse, verdict, storeCounted, counted, uncounted, decide, takeEcho, judge, step}
-use Rattle.rules.specs.Table.{TableRecord, TableState, settle, firstRecord, nextRecord, recordEcho, table}
+use Rattle.rules.specs.Table.{TableRecord, TableState, settle, withLinks, begun, firstRecord, nextRecord, recordEcho, table}
 use Rattle.call_receive_arrival.specs.Receiving.{ownMessage, foreign, concluded}
 
 -- the table with the originator's record x, at the packet's time
@@ -32,8 +32,8 @@ holding s a h x = withRecords table s (a .time) (put (h .originator) x (s .recor
 abbrev pub concludes : TableState → ReceiveArgs → Header → (bidirectional fresh : Bool) → OutcomeOf table
 concludes s a h b f = record { reply = concluded s a h b f; state = s }
 
-settle-few : (κ : Config) (m : Ogm) (c b v : ℕ) (ls : List (ℕ × ℕ)) → length (settle κ m c b v ls .links) ≤ length ls
-settle-few κ m c b v ls = keep-length (λ (e : ℕ × ℕ). hasMark (e .1) || eqb (e .0) (settle κ m c b v ls .best)) ls
+settle-few : (κ : Config) (m : Ogm) (v : ℕ) (x : TableRecord) → length (settle κ m v x .links) ≤ length (x .links)
+settle-few κ m v x = keep-length (λ (e : ℕ × ℕ). hasMark (e .1) || eqb (e .0) (settle κ m v x .best)) (x .links)
 
 and-false : (t : Bool) → (t && false) ≡ false
 and-false true = refl
@@ -129,9 +129,8 @@ module _ (s : TableState) (a : ReceiveArgs) where
     unfolding firstRecord
     first-few =
         let m = message a h in
-        let n = sequenceOf m in
-        let v = mark 0 (distance n n) in
-        omega (arith, settle-few (s .config) m n (m .link) v ((m .link, v) ∷ []))
+        let v = mark 0 (distance (sequenceOf m) (sequenceOf m)) in
+        omega (arith, settle-few (s .config) m v (withLinks ((m .link, v) ∷ []) (begun m)))
 
     module _ (f : Bool) (x : TableRecord) where
       pub way-11 : linkMost < length (x .links) → storeCounted table s a h f x ≡ refuse table (receive a) s (numbered 11)

@@ -25,7 +25,6 @@ ghost use Rattle.rules.specs.Rules as R;
 ghost use Rattle.rules.specs.Settings.{ttlLeast};
 ghost use Rattle.rules.specs.Table.{table};
 ghost use Rattle.table_layout.specs.Cells.{encode, decode};
-ghost use Rattle.table_layout.specs.Facts.{Knows};
 ghost use Rattle.table_originators.specs.Originators.{Stands};
 ghost use Rattle.call_receive_arrival.specs.Receiving.{callOf, refusedBy, verdictOf, Ends, Fits, concluded};
 
