@@ -4,11 +4,11 @@ use mathlib.Core.Bool.{Bool, true, false, cond}
 use mathlib.Core.List.{List, [], _∷_, _++_, map, append-assoc, append-nil}
 use Prim.Native.Nat.{ℕ, _+_, _-_, _*_, _≤_, _<_}
 use native.Mathlib.Omega.{arith}
-use lib.ListN.{length, take, drop, set, getD, length-append, length-drop, length-set, length-map}
+use lib.ListN.{length, take, drop, set, getD, length-append, length-set, length-map}
 use lib.Seq.{length-take-le}
 use borrow.Rule.Slice.PartMut.{putMid, put-same}
 use Rattle.lists.specs.Keyed.{put}
-use Rattle.cells.specs.Area.{putIn, written, insertAt}
+use Rattle.cells.specs.Area.{putIn, insertAt}
 use Rattle.cells.specs.Pairs.{pairArea}
 use Rattle.cells.specs.Find.{IsAt}
 use Rattle.cells.proofs.Areas.{length-area, length-insert, take-more, more-back, write-row, put-row}
