@@ -8,7 +8,7 @@ use borrow.Author.Tests.{leb-true}
 use borrow.Rule.Slice.PartMut.{putMid}
 use lib.Dec.{leb, ltb}
 use lib.ListN.{length, take, drop, getD}
-use Rattle.lists.specs.Lists.{and, keep}
+use Rattle.lists.specs.Lists.{keep}
 use Rattle.lists.proofs.Lists.{keep-length}
 use Rattle.cells.specs.Area.{zeros, written}
 use Rattle.cells.proofs.Areas.{length-area}
