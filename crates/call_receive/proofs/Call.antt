@@ -1,28 +1,26 @@
 -- The ways through the call: refused by 1, refused by the rules, or judged; and what no refusal tells. Assumes nothing.
-use mathlib.Core.Path.{_≡_, refl, sym, subst}
+use mathlib.Core.Path.{_≡_, refl, sym, ap, _∙_, subst}
 use mathlib.Core.Bool.{Bool, true, false, not, _||_}
 use mathlib.Core.List.{List}
 use mathlib.Core.Option.{none, some}
-use Prim.Native.Nat.{ℕ, _+_, _≤_, _<_}
+use Prim.Native.Nat.{ℕ, _≤_, _<_}
 use native.Mathlib.Omega.{arith}
 use borrow.Author.Tests.{ltb-true, ltb-false, not-false}
 use lib.Dec.{ltb}
 use lib.ListN.{length, getD}
-use Rattle.lists.specs.Lists.{all}
-use Rattle.lists.proofs.Tests.{both, and-at, all-at}
-use Rattle.window.specs.Window.{numbers}
+use Rattle.lists.proofs.Tests.{both, and-at}
 use Rattle.wire.specs.declared.Fault.{Fault}
-use Rattle.wire.specs.Layout.{headerSize, packetMost, sequenceAt}
-use Rattle.wire.specs.Packet.{octet, header}
+use Rattle.wire.specs.Layout.{headerSize, packetMost}
 use Rattle.wire.specs.Check as check
 use Rattle.wire.specs.Check.{faultOf, packetFault, packetFaults}
 use Rattle.rules.specs.declared.Received.{Received}
-use Rattle.rules.specs.Settings.{isInUse, isOctet}
+use Rattle.rules.specs.Settings.{isInUse, isAddress}
 use Rattle.rules.specs.Calls.{ReceiveArgs, Reply, receive, received, answeredWriting, refusal}
 use Rattle.rules.specs.Rules.{step, receiveFault, receiveFaults}
 use Rattle.rules.specs.Table.{table}
 use Rattle.rules.specs.WellFormed as R
 use Rattle.rules.proofs.WellFormed.{wellFormed-step}
+use Rattle.rules.proofs.Links.{neighbour-of}
 use Rattle.rules.proofs.Faults.{none-at, not-given, numbered, first-numbered, given-numbered, packet-numbered, no-number}
 use Rattle.table_layout.specs.Layout.{usedAt, ownAt, broadcastAt}
 use Rattle.table_layout.specs.Interfaces.{encodeInterface}
@@ -95,21 +93,16 @@ module _ (c : List ℕ) (a : ReceiveArgs) (n : receiveFault (decode c .config) (
       or-left true y e = e
       or-left false y e = refl
 
--- two octets are a sequence number
-sequence-below : (p : List ℕ) → all isOctet p ≡ true → header p .sequence < numbers
-unfolding header
-sequence-below p h =
-    let below : (k : ℕ) → octet p k < 256 = λ k. ltb-true (octet p k) 256 (all-at isOctet 0 refl p h k) in
-    omega (arith, below sequenceAt, below (sequenceAt + 1))
-
 -- the message that such a packet begins with is taken
 pub takes : (c p : List ℕ) (sender interface time : ℕ) (o : List ℕ) → Knows c → receiveFault (decode c .config) (decode c .time) (argsOf p sender interface time o) ≡ none
     → R.typed (receive (argsOf p sender interface time o)) ≡ true → Taken c p o (arrivalOf p sender interface time)
 takes c p sender interface time o k n typed =
+    let a = argsOf p sender interface time o in
+    let used = in-use c a n in
     record {
       knows = k;
-      kept = wellFormed-step (length c) (decode c) (k .valid) (receive (argsOf p sender interface time o)) typed;
-      sequence = sequence-below p (and-at (R.receiveTypes (argsOf p sender interface time o)) typed 1);
-      fits = record { reads = refl; size = has-header c (argsOf p sender interface time o) n; room = has-room c (argsOf p sender interface time o) n };
-      interface = in-use c (argsOf p sender interface time o) n;
+      kept = wellFormed-step (length c) (decode c) (k .valid) (receive a) typed;
+      link = ap isAddress (neighbour-of sender interface (omega (arith, k .sized .used-most))) ∙ and-at (R.receiveTypes a) typed 0;
+      fits = record { reads = refl; size = has-header c a n; room = has-room c a n };
+      interface = used;
     }

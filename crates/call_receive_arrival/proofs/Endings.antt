@@ -1,14 +1,14 @@
 -- What a received packet leaves, by how it ends. Assumes nothing.
-use mathlib.Core.Path.{_≡_, refl, sym, ap, ap₂, _∙_, subst}
+use mathlib.Core.Path.{_≡_, sym, ap, ap₂, _∙_, subst}
 use mathlib.Core.Bool.{Bool, true, false, _&&_, _||_}
-use mathlib.Core.Option.{Option, some}
+use mathlib.Core.Option.{Option}
 use mathlib.Core.List.{List}
 use Prim.Native.Nat.{ℕ, _<_}
 use native.Mathlib.Omega.{arith}
 use borrow.Author.Tests.{leb-true}
 use lib.Dec.{leb, eqb}
+use lib.ListN.{set}
 use Rattle.lists.specs.Lists.{writtenTo}
-use Rattle.lists.specs.Keyed.{lookup}
 use Rattle.lists.proofs.Tests.{and-left}
 use Rattle.wire.specs.declared.Header.{Header}
 use Rattle.wire.specs.declared.Fault.{Fault}
@@ -20,20 +20,17 @@ use Rattle.rules.specs.declared.Received.{Received}
 use Rattle.rules.specs.declared.Route.{Route}
 use Rattle.rules.specs.Settings.{ttlLeast}
 use Rattle.rules.specs.Calls.{linkOf, ReceiveArgs, Reply, receive, received, receivedAs, answeredWriting, refusal}
-use Rattle.rules.specs.Rules.{OutcomeOf, linkBy, message, withTime, refuse, verdict, conclude, isPassedOn, routeOf}
+use Rattle.rules.specs.Rules.{OutcomeOf, message, isBestBy, withTime, refuse, verdict, conclude, routeOf}
 use Rattle.rules.specs.Table.{TableRecord, TableState, table}
 use Rattle.rules.specs.WellFormed.{wellFormed}
-use Rattle.cells.specs.Find.{IsAt}
-use Rattle.table_record.specs.Record.{decodeRecord}
+use Rattle.table_layout.specs.Layout.{timeAt}
 use Rattle.table_layout.specs.Cells.{encode, decode}
-use Rattle.table_layout.specs.Facts.{Knows, recordAt}
+use Rattle.table_layout.specs.Facts.{Knows}
 use Rattle.table_changes.specs.Left.{Left}
-use Rattle.table_originators.specs.Originators.{heldBy, Stands}
-use Rattle.table_originators.proofs.Records.{stands}
+use Rattle.table_changes.proofs.Parts.{time-set}
 use Rattle.call_receive_arrival.specs.declared.Arrival.{Arrival}
-use Rattle.call_receive_arrival.specs.Receiving.{callOf, after, Leaves, refusedBy, verdictOf, Ends, Fits, Taken, concluded}
+use Rattle.call_receive_arrival.specs.Receiving.{callOf, after, Leaves, refusedBy, verdictOf, Concluded, Ends, Fits, Taken}
 use Rattle.call_receive_arrival.proofs.Ways.{concludes}
-use Rattle.call_receive_arrival.proofs.Tables.{left-knows, left-decode}
 
 -- what the message says is what the packet says
 module _ {p o : List ℕ} {m : Arrival} (f : Fits p o m) where
@@ -117,33 +114,13 @@ module _ {p o : List ℕ} {m : Arrival} (f : Fits p o m) (b best : Bool) (route 
       (ap₂ (λ (y : Received) (l : List ℕ). answeredWriting (received y) l) (er ∙ ap (λ (x : ℕ). receivedAs 26 0 x route) (ee ∙ ap flagsElsewhere (flags-is f)))
       (eq ∙ ap (λ (x : ℕ). writtenTo (passedOn x p) o) (eh ∙ (λ j. flagsHere (eqb (m .sender) (originator-is f j)) b (flags-is f j)))))
 
--- ---- 25 or 26: by the originator's record, which stands at place i
+-- ---- 25 or 26: the originator's record as the call leaves it is x, and the cells d are those of the table s with it, before the time is set
 
-pub by-record : {c p o : List ℕ} {m : Arrival} (i : ℕ) → Fits p o m → Stands c (m .originator) i → (b fresh best : Bool) (route : Route)
-    → best ≡ eqb (decodeRecord (recordAt c i) .1 .best) (m .ogm .link) → route ≡ routeOf table (decode c .config) (some (decodeRecord (recordAt c i) .1))
-    → conclude (callOf p o m) (header p) b (leb ttlLeast (m .ogm .ttl) && (eqb (m .sender) (m .originator) || (b && (best && fresh)))) route ≡ concluded (decode c) (callOf p o m) (header p) b fresh
-by-record {c} {p} {o} {m} i f s b fresh best route eb er =
-    let κ = decode c .config in
-    let x = decodeRecord (recordAt c i) .1 in
-    let a = callOf p o m in
-    let found : lookup (header p .originator) (decode c .records) ≡ some x = ap (λ (k : ℕ). lookup k (decode c .records)) (sym (originator-is f)) ∙ s .found in
-    let link : best ≡ eqb (x .best) (linkBy a) = eb ∙ ap (eqb (x .best)) (link-is f) in
-    (λ j. conclude a (header p) b (leb ttlLeast (ttl-is f j) && (eqb (m .sender) (originator-is f j) || (b && (link j && fresh)))) (er j))
-    ∙ ap (λ (y : Option TableRecord). conclude a (header p) b (isPassedOn table κ a (header p) b fresh y) (routeOf table κ y)) (sym found)
-
--- ---- 25 or 26: by the cells d, as the call leaves them, where the originator's record stands at place i
-
-pub record Concludes (c p o d : List ℕ) (m : Arrival) (i : ℕ) (b fresh : Bool) : Type 0 where
-  pub stands : Stands d (m .originator) i
-  pub leaves : (q : List ℕ) (r : Received) → answeredWriting (received r) q ≡ concluded (decode d) (callOf p o m) (header p) b fresh → Leaves d q r (after c p o m)
-
-pub concludes-by : {c p o d : List ℕ} {m : Arrival} {b fresh : Bool} (i : ℕ) (s : TableState) → Taken c p o m → d ≡ encode s → after c p o m ≡ concludes s (callOf p o m) (header p) b fresh → IsAt (heldBy s) (m .originator) i
-    → Concludes c p o d m i b fresh
-concludes-by {c} {p} {o} {d} {m} {b} {fresh} i s t ed e at =
-    let w = kept-by t e in
-    let back : decode d ≡ s = left-decode s ed w in
-    record {
-      stands = stands d (left-knows s ed w) (m .originator) i (subst (λ (y : TableState). IsAt (heldBy y) (m .originator) i) (sym back) at);
-      leaves = λ q r l.
-          leaves-by e (record { replies = l ∙ ap (λ (y : TableState). concluded y (callOf p o m) (header p) b fresh) back; leaves = ed });
-    }
+pub concludes-left : {p o : List ℕ} {m : Arrival} → Fits p o m → (s : TableState) (b fresh : Bool) (x : Option TableRecord) {y : OutcomeOf table} → y ≡ concludes s (callOf p o m) (header p) b fresh x
+    → {d : List ℕ} → d ≡ encode s → {best : Bool} {route : Route} → best ≡ (b && (isBestBy table (s .config) (callOf p o m) x && fresh)) → route ≡ routeOf table (s .config) x
+    → {e q : List ℕ} {r : Received} → Concluded d p o m b best route e q r → Leaves e q r y
+concludes-left {p} {o} {m} f s b fresh x w ed eb er k =
+    leaves-by w (record {
+      replies = k .replies ∙ (λ j. conclude (callOf p o m) (header p) b (leb ttlLeast (ttl-is f j) && (eqb (m .sender) (originator-is f j) || eb j)) (er j));
+      leaves = k .cells ∙ ap (λ (l : List ℕ). set l timeAt (m .ogm .time)) ed ∙ time-set s (m .ogm .time);
+    })

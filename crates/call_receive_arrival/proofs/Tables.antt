@@ -3,16 +3,12 @@ use mathlib.Core.Path.{_≡_, sym, ap, _∙_, subst}
 use mathlib.Core.Bool.{true}
 use mathlib.Core.List.{List}
 use Prim.Native.Nat.{ℕ}
-use lib.ListN.{set}
-use Rattle.rules.specs.Rules.{withTime}
-use Rattle.rules.specs.Table.{TableState, table}
+use Rattle.rules.specs.Table.{TableState}
 use Rattle.rules.specs.WellFormed as R
-use Rattle.table_layout.specs.Layout.{timeAt}
 use Rattle.table_layout.specs.Cells.{encode, decode}
 use Rattle.table_layout.specs.Facts.{Knows}
 use Rattle.table_layout.proofs.Encoding.{decode-encode}
 use Rattle.table_check.proofs.Knowing.{knows-encoded}
-use Rattle.table_changes.proofs.Parts.{time-set}
 
 -- the cells d of a well-formed table s
 module _ (s : TableState) {d : List ℕ} (e : d ≡ encode s) (h : R.wellFormed s ≡ true) where
@@ -21,6 +17,3 @@ module _ (s : TableState) {d : List ℕ} (e : d ≡ encode s) (h : R.wellFormed 
 
   pub left-decode : decode d ≡ s
   left-decode = ap decode e ∙ decode-encode s h
-
-pub time-cells : (c : List ℕ) → Knows c → (t : ℕ) → set c timeAt t ≡ encode (withTime table (decode c) t)
-time-cells c k t = ap (λ (l : List ℕ). set l timeAt t) (sym (k .cells)) ∙ time-set (decode c) t

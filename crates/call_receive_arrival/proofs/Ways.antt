@@ -1,6 +1,6 @@
 -- The ways through the rules of receiving: one law each, from what the tests said to the outcome. Assumes nothing.
-use mathlib.Core.Path.{_≡_, refl, sym}
-use mathlib.Core.Bool.{Bool, true, false, _&&_, _||_, not}
+use mathlib.Core.Path.{_≡_, refl}
+use mathlib.Core.Bool.{Bool, true, false, _&&_, _||_, not, false≢true}
 use mathlib.Core.Logic.{_⊎_, inl, inr}
 use mathlib.Core.Option.{Option, none, some}
 use mathlib.Core.List.{List, [], _∷_}
@@ -9,8 +9,8 @@ use lib.Dec.{eqb}
 use lib.ListN.{length}
 use native.Mathlib.Omega.{arith}
 use borrow.Author.Tests.{lt-ltb, le-ltb, le-leb, lt-leb}
-use Rattle.lists.specs.Keyed.{lookup, hasKey, put}
-use Rattle.lists.proofs.Keyed.{lookup-put, length-mapValues}
+use Rattle.lists.specs.Keyed.{hasKey, put}
+use Rattle.lists.proofs.Keyed.{length-mapValues}
 use Rattle.lists.proofs.Lists.{keep-length}
 use Rattle.window.specs.Window.{distance, mark, count, hasMark}
 use Rattle.wire.specs.declared.Header.{Header}
@@ -20,17 +20,18 @@ use Rattle.wire.specs.Check.{numbered}
 use Rattle.rules.specs.Settings.{Config, neighbourMost, linkMost, isOwn, isBroadcast}
 use Rattle.rules.specs.Calls.{ReceiveArgs, receive}
 use Rattle.rules.specs.declared.Ogm.{Ogm}
-use Rattle.rules.specs.Rules.{sequenceOf, OutcomeOf, branch, unless, receiveFault, linkBy, message, isEcho, isDuplicate, isFresh, withTime, withRows, withRecords, refuse, verdict, storeCounted, counted, uncounted, decide, takeEcho, judge, step}
+use Rattle.rules.specs.Rules.{sequenceOf, OutcomeOf, branch, unless, receiveFault, linkBy, message, isEcho, isDuplicate, isFresh, isPassedOn, routeOf, withTime, withRows, refuse, verdict, conclude, storeCounted, counted, uncounted, decide, takeEcho, judge, step}
 use Rattle.rules.specs.Table.{TableRecord, TableState, settle, firstRecord, nextRecord, recordEcho, table}
-use Rattle.call_receive_arrival.specs.Receiving.{ownMessage, foreign, concluded}
+use Rattle.table_changes.specs.Changes.{withRecords}
+use Rattle.call_receive_arrival.specs.Receiving.{ownMessage, foreign}
 
--- the table with the originator's record x, at the packet's time
-abbrev pub holding : TableState → ReceiveArgs → Header → TableRecord → TableState
-holding s a h x = withRecords table s (a .time) (put (h .originator) x (s .records))
+-- the table with the originator's record x
+abbrev pub holding : TableState → Header → TableRecord → TableState
+holding s h x = withRecords (put (h .originator) x (s .records)) s
 
--- 25 or 26 as the call leaves the table s
-abbrev pub concludes : TableState → ReceiveArgs → Header → (bidirectional fresh : Bool) → OutcomeOf table
-concludes s a h b f = record { reply = concluded s a h b f; state = s }
+-- 25 or 26, with the originator's record x, if one is held, as the call leaves it; the table s has then the packet's time
+abbrev pub concludes : TableState → ReceiveArgs → Header → (bidirectional fresh : Bool) → Option TableRecord → OutcomeOf table
+concludes s a h b f x = record { reply = conclude a h b (isPassedOn table (s .config) a h b f x) (routeOf table (s .config) x); state = withTime table s (a .time) }
 
 settle-few : (κ : Config) (m : Ogm) (c b v : ℕ) (ls : List (ℕ × ℕ)) → length (settle κ m c b v ls .links) ≤ length ls
 settle-few κ m c b v ls = keep-length (λ (e : ℕ × ℕ). hasMark (e .1) || eqb (e .0) (settle κ m c b v ls .best)) ls
@@ -100,32 +101,38 @@ module _ (s : TableState) (a : ReceiveArgs) where
 
     -- ---- a message of another node
 
-    -- its originator's record
-    abbrev held : Option TableRecord
-    held = lookup (h .originator) (s .records)
+    abbrev isCounted : (bidirectional : Bool) → Option TableRecord → Bool
+    isCounted b x = b && not (isDuplicate table (s .config) a h x)
 
-    pub way-counted : isDuplicate table (s .config) a h held ≡ false → decide table s a h true held ≡ counted table s a h true held
-    unfolding decide branch
-    way-counted e = rw e
+    abbrev fresh : Option TableRecord → Bool
+    fresh = isFresh table (s .config) a h
 
-    pub way-uncounted : (b f : Bool) → f ≡ isFresh table (s .config) a h held → (b && not (isDuplicate table (s .config) a h held)) ≡ false → decide table s a h b held ≡ concludes (withTime table s (a .time)) a h b f
+    -- not counted
+    pub way-kept : (b : Bool) (x : Option TableRecord) → isCounted b x ≡ false → decide table s a h b x ≡ concludes s a h b (fresh x) x
     unfolding decide branch uncounted
-    way-uncounted b f ef e = rw (e, sym ef)
+    way-kept b x e = rw e
 
-    pub way-10 : (f : Bool) → s .config .settings .capacity ≤ length (s .records) → counted table s a h f none ≡ refuse table (receive a) s (numbered 10)
-    unfolding counted unless
-    way-10 f l = rw (le-leb (s .config .settings .capacity) (length (s .records)) l)
+    -- counted in the record x
+    module _ (x : TableRecord) where
+      abbrev next : TableRecord
+      next = nextRecord (s .config) (message a h) x
 
-    pub way-first : (f : Bool) → length (s .records) < s .config .settings .capacity → counted table s a h f none ≡ storeCounted table s a h f (firstRecord (s .config) (message a h))
-    unfolding counted unless
-    way-first f l = rw (lt-leb (s .config .settings .capacity) (length (s .records)) l)
+      pub way-11 : (b : Bool) → isCounted b (some x) ≡ true → linkMost < length (next .links) → decide table s a h b (some x) ≡ refuse table (receive a) s (numbered 11)
+      unfolding decide branch counted storeCounted unless
+      way-11 b e l = rw (e, length-mapValues count (next .links), lt-ltb linkMost (length (next .links)) l)
 
-    pub way-next : (f : Bool) (x : TableRecord) → counted table s a h f (some x) ≡ storeCounted table s a h f (nextRecord (s .config) (message a h) x)
-    unfolding counted
-    way-next f x = refl
+      -- best is judged after counting
+      pub way-next : (b : Bool) → isCounted b (some x) ≡ true → length (next .links) ≤ linkMost → decide table s a h b (some x) ≡ concludes (holding s h next) a h b (fresh (some x)) (some next)
+      unfolding decide branch counted storeCounted unless
+      way-next true e l = rw (e, length-mapValues count (next .links), le-ltb linkMost (length (next .links)) l)
+      way-next false e l = absurd (false≢true e)
+
+    -- the first counted makes the record
+    abbrev first : TableRecord
+    first = firstRecord (s .config) (message a h)
 
     -- one link is not too many
-    pub first-few : length (firstRecord (s .config) (message a h) .links) ≤ linkMost
+    first-few : length (first .links) ≤ linkMost
     unfolding firstRecord
     first-few =
         let m = message a h in
@@ -133,12 +140,10 @@ module _ (s : TableState) (a : ReceiveArgs) where
         let v = mark 0 (distance n n) in
         omega (arith, settle-few (s .config) m n (m .link) v ((m .link, v) ∷ []))
 
-    module _ (f : Bool) (x : TableRecord) where
-      pub way-11 : linkMost < length (x .links) → storeCounted table s a h f x ≡ refuse table (receive a) s (numbered 11)
-      unfolding storeCounted unless
-      way-11 l = rw (length-mapValues count (x .links), lt-ltb linkMost (length (x .links)) l)
+    pub way-10 : s .config .settings .capacity ≤ length (s .records) → decide table s a h true none ≡ refuse table (receive a) s (numbered 10)
+    unfolding decide branch counted unless
+    way-10 l = rw (le-leb (s .config .settings .capacity) (length (s .records)) l)
 
-      -- best is judged after counting
-      pub way-stored : length (x .links) ≤ linkMost → storeCounted table s a h f x ≡ concludes (holding s a h x) a h true f
-      unfolding storeCounted unless
-      way-stored l = rw (length-mapValues count (x .links), le-ltb linkMost (length (x .links)) l, lookup-put (h .originator) x (s .records))
+    pub way-first : length (s .records) < s .config .settings .capacity → decide table s a h true none ≡ concludes (holding s h first) a h true true (some first)
+    unfolding decide branch counted storeCounted unless
+    way-first l = rw (lt-leb (s .config .settings .capacity) (length (s .records)) l, length-mapValues count (first .links), le-ltb linkMost (length (first .links)) first-few)

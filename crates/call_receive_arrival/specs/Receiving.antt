@@ -1,22 +1,24 @@
 -- Names for what the steps of receiving are asked and leave.
 use Prim.Native.Nat.{ℕ, _≤_, _<_}
 use mathlib.Core.Path.{_≡_}
-use mathlib.Core.Bool.{Bool, true}
+use mathlib.Core.Bool.{Bool, true, _&&_, _||_}
+use lib.Dec.{leb, eqb}
 use mathlib.Core.List.{List, []}
-use lib.ListN.{length, getD}
+use lib.ListN.{length, set, getD}
 use Rattle.lists.specs.Keyed.{lookup, hasKey}
-use Rattle.window.specs.Window.{numbers}
 use Rattle.wire.specs.declared.Header.{Header}
 use Rattle.wire.specs.declared.Fault.{Fault}
 use Rattle.wire.specs.Layout.{headerSize}
 use Rattle.wire.specs.Packet.{header}
 use Rattle.rules.specs.declared.Received.{Received}
+use Rattle.rules.specs.declared.Route.{Route}
 use Rattle.rules.specs.declared.Interface.{Interface}
-use Rattle.rules.specs.Calls.{received, receive, ReceiveArgs, Reply, receivedAs, answeredWriting, noRoute}
-use Rattle.rules.specs.Rules.{OutcomeOf, branch, lastSent, isEcho, takeEcho, verdict, linkBy, message, withTime, routeOf, isPassedOn, conclude, counted, decide, step}
+use Rattle.rules.specs.Settings.{ttlLeast, isAddress}
+use Rattle.rules.specs.Calls.{neighbourOf, received, receive, ReceiveArgs, receivedAs, answeredWriting, noRoute}
+use Rattle.rules.specs.Rules.{OutcomeOf, branch, lastSent, isEcho, takeEcho, verdict, linkBy, message, withTime, routeOf, conclude, decide, step}
 use Rattle.rules.specs.Table.{TableState, table}
 use Rattle.rules.specs.WellFormed.{wellFormed}
-use Rattle.table_layout.specs.Layout.{usedAt}
+use Rattle.table_layout.specs.Layout.{usedAt, timeAt}
 use Rattle.table_layout.specs.Interfaces.{InterfaceRow, encodeInterface}
 use Rattle.table_layout.specs.Cells.{encode, decode}
 use Rattle.table_layout.specs.Facts.{Knows}
@@ -60,6 +62,11 @@ refusedBy f = receivedAs (f .number) (f .place) 0 noRoute
 abbrev pub verdictOf : TableState → (number originator : ℕ) → Received
 verdictOf s v o = receivedAs v 0 0 (routeOf table (s .config) (lookup o (s .records)))
 
+-- 25 or 26, by whether the link is bidirectional and best and the message fresh, with a route; the time is set
+pub record Concluded (c p o : List ℕ) (m : Arrival) (bidirectional best : Bool) (route : Route) (d q : List ℕ) (r : Received) : Type 0 where
+  pub replies : answeredWriting (received r) q ≡ conclude (callOf p o m) (header p) bidirectional (leb ttlLeast (m .ogm .ttl) && (eqb (m .sender) (m .originator) || best)) route
+  pub cells : d ≡ set c timeAt (m .ogm .time)
+
 -- ---- what is asked
 
 -- the cells are a table's that is well-formed once the call sets its time
@@ -80,7 +87,7 @@ pub record Taken (c p o : List ℕ) (m : Arrival) : Type 0 where
   pub kept : wellFormed (after c p o m .state) ≡ true
   pub fits : Fits p o m
   pub interface : m .interface < getD c usedAt 0
-  pub sequence : m .ogm .sequence < numbers
+  pub link : isAddress (neighbourOf (m .ogm .link)) ≡ true
 
 -- a rule on a table, for a call and its header
 abbrev pub Rule : Type 0
@@ -111,12 +118,6 @@ ownMessage s a h = branch (isEcho (s .config) (s .sends) a h) (takeEcho table s 
 abbrev pub foreign : Rule
 foreign s a h = decide table s a h (hasKey (linkBy a) (s .rows)) (lookup (h .originator) (s .records))
 
--- 25 or 26, with the originator's record as s has it
-abbrev pub concluded : TableState → ReceiveArgs → Header → (bidirectional fresh : Bool) → Reply
-concluded s a h b fresh =
-    let x = lookup (h .originator) (s .records) in
-    conclude a h b (isPassedOn table (s .config) a h b fresh x) (routeOf table (s .config) x)
-
 -- the field f of an interface stands at a place of its row
 abbrev pub IsFieldAt : (f : Interface → ℕ) (place : ℕ) → Type 0
 IsFieldAt f k = (x : InterfaceRow) → getD (encodeInterface x) k 0 ≡ f (x .0)
@@ -128,7 +129,3 @@ pub record Decides (c p o : List ℕ) (m : Arrival) (bidirectional : Bool) : Typ
   pub taken : Taken c p o m
   pub link : bidirectional ≡ hasKey (m .ogm .link) (decode c .rows)
   pub ruled : Ruled c p o m foreign
-
--- it is counted, and so no duplicate
-abbrev pub Counts : (c p o : List ℕ) → Arrival → Type 0
-Counts c p o m = Ruled c p o m (λ s a h. counted table s a h true (lookup (h .originator) (s .records)))

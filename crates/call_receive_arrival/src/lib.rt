@@ -1,7 +1,6 @@
 // A received message, and how its packet ends: refused, or with a verdict and the route of its originator.
 use call_best::no_route;
 use call_best::route_to;
-use count_in_record::is_best;
 use packet_codec::output::flags_elsewhere;
 use packet_codec::output::flags_here;
 use packet_codec::output::pass_on;
@@ -12,22 +11,16 @@ use rules::limits::TTL_LEAST;
 use rules::verdicts::KEPT;
 use rules::verdicts::PASSED_ON;
 use table_layout::TIME;
-use table_layout::WINDOW;
-use table_originators::record_at;
-use table_record::route_of;
 use wire::Fault;
 ghost use mathlib.Core.Path.{_≡_};
-ghost use mathlib.Core.Bool.{_&&_, _||_};
-ghost use lib.Dec.{leb, eqb};
-ghost use Rattle.wire.specs.Packet.{header};
-ghost use Rattle.rules.specs.Calls.{received, receivedAs, answeredWriting};
+ghost use Prim.Native.Nat.{_<_};
+ghost use lib.ListN.{length};
+ghost use Rattle.rules.specs.Calls.{receivedAs};
 ghost use Rattle.rules.specs.Rules as R;
-ghost use Rattle.rules.specs.Settings.{ttlLeast};
 ghost use Rattle.rules.specs.Table.{table};
-ghost use Rattle.table_layout.specs.Cells.{encode, decode};
-ghost use Rattle.table_layout.specs.Facts.{Knows};
-ghost use Rattle.table_originators.specs.Originators.{Stands};
-ghost use Rattle.call_receive_arrival.specs.Receiving.{callOf, refusedBy, verdictOf, Ends, Fits, concluded};
+ghost use Rattle.table_layout.specs.Layout.{timeAt};
+ghost use Rattle.table_layout.specs.Cells.{encode};
+ghost use Rattle.call_receive_arrival.specs.Receiving.{refusedBy, verdictOf, Ends, Fits, Concluded};
 
 // A received message: who sent it, by which interface it came, what its packet says, and what a record is told of it.
 pub struct Arrival {
@@ -66,8 +59,9 @@ pub fn verdict(cells: &mut [u64], number: u64, time: u64, originator: u32) -> Re
     received_as(number, 0, 0, route_to(cells, originator))
 }
 
-// Ends with 26 or 25. `best` says that the link is bidirectional and best, and the message no duplicate or with the last TTL.
+// Ends with 26 or 25: the time is set. `best` says that the link is bidirectional and best, and the message fresh.
 pub fn conclude(
+    cells: &mut [u64],
     packet: &[u8],
     out: &mut [u8],
     m: Arrival,
@@ -75,32 +69,14 @@ pub fn conclude(
     best: bool,
     route: Route,
 ) -> Received
-    requires { ⌜ Fits (now packet) (now out) m ⌝ }
-    ensures { λ r. ⌜ answeredWriting (received r) (now (out .exit)) ≡ R.conclude (callOf (now (packet .entry)) (now (out .entry)) m) (header (now (packet .entry))) bidirectional (leb ttlLeast (m .ogm .ttl) && (eqb (m .sender) (m .originator) || best)) route ⌝ }
+    requires { ⌜ Fits (now packet) (now out) m × (timeAt < length (now cells)) ⌝ }
+    ensures { λ r. ⌜ Concluded (now (cells .entry)) (now (packet .entry)) (now (out .entry)) m bidirectional best route (now (cells .exit)) (now (out .exit)) r ⌝ }
 {
+    cells[TIME] = m.ogm.time;
     let direct = m.sender == m.originator;
     if !((TTL_LEAST <= m.ogm.ttl) & (direct | best)) {
         return received_as(KEPT, 0, 0, route);
     }
     pass_on(packet, out, flags_here(direct, bidirectional, m.flags));
     received_as(PASSED_ON, 0, flags_elsewhere(m.flags), route)
-}
-
-// Ends with 26 or 25 by the originator's record, at place i, as the call leaves it. `fresh` was judged before counting.
-pub fn conclude_by(
-    cells: &[u64],
-    packet: &[u8],
-    out: &mut [u8],
-    m: Arrival,
-    i: usize,
-    bidirectional: bool,
-    fresh: bool,
-) -> Received
-    requires { ⌜ Fits (now packet) (now out) m × Stands (now cells) (m .originator) i ⌝ }
-    ensures { λ r. ⌜ answeredWriting (received r) (now (out .exit)) ≡ concluded (decode (now (cells .entry))) (callOf (now (packet .entry)) (now (out .entry)) m) (header (now (packet .entry))) bidirectional fresh ⌝ }
-{
-    let row = record_at(cells, i);
-    let best = bidirectional & (is_best(row, m.ogm.link) & fresh);
-    let route = route_of(row, cells[WINDOW] as u32);
-    conclude(packet, out, m, bidirectional, best, route)
 }

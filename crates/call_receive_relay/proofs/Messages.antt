@@ -1,145 +1,135 @@
--- Messages of other nodes: whether one is counted, and what that leaves. Assumes nothing.
-use mathlib.Core.Path.{_≡_, sym, ap, _∙_, subst}
-use mathlib.Core.Bool.{Bool, true, false, cond, _&&_, _||_, not}
+-- Messages of other nodes: what each end leaves. Assumes nothing.
+use mathlib.Core.Path.{_≡_, refl, sym, ap, ap₂, _∙_, subst}
+use mathlib.Core.Bool.{Bool, true, false, _&&_, _||_, not}
 use mathlib.Core.Option.{Option, none, some}
 use mathlib.Core.List.{List}
-use Prim.Native.Nat.{ℕ, _%_, _≤_, _<_}
-use native.Mathlib.Nat.{mod-eq-of-lt}
+use Prim.Native.Nat.{ℕ, _≤_, _<_}
 use native.Mathlib.Omega.{arith}
-use borrow.Author.Tests.{leb-true, leb-false, not-true}
-use lib.Dec.{leb, eqb}
-use lib.ListN.{length, set, getD}
-use Rattle.lists.specs.Lists.{maybe}
+use lib.Dec.{eqb}
+use lib.ListN.{length, getD}
 use Rattle.lists.specs.Keyed.{lookup, hasKey, put}
-use Rattle.lists.proofs.Tests.{and-left, and-right}
-use Rattle.cells.specs.Find.{IsAt}
-use Rattle.window.specs.Window.{numbers}
 use Rattle.wire.specs.Packet.{header}
 use Rattle.wire.specs.Check.{numbered}
+use Rattle.rules.specs.declared.Ogm.{Ogm}
 use Rattle.rules.specs.declared.Received.{Received}
 use Rattle.rules.specs.declared.Route.{Route}
-use Rattle.rules.specs.Settings.{linkMost, ttlLeast}
-use Rattle.rules.specs.Calls.{receive, received, answeredWriting, noRoute}
-use Rattle.rules.specs.declared.Ogm.{Ogm}
-use Rattle.rules.specs.Rules.{message, isDuplicate, isFresh, isPassedOn, routeOf, withTime, refuse, conclude, counted, storeCounted, decide}
+use Rattle.rules.specs.Settings.{linkMost}
+use Rattle.rules.specs.Calls.{ReceiveArgs, receive, noRoute}
+use Rattle.rules.specs.Rules.{sequenceOf, message, isBestBy, isDuplicate, isFresh, routeOf, refuse, decide}
 use Rattle.rules.specs.Table.{TableRecord, TableState, firstRecord, nextRecord, isMarked, table}
-use Rattle.table_record.specs.Record.{decodeRecord}
-use Rattle.table_layout.specs.Layout.{timeAt, capacityAt, recordsAt}
+use Rattle.table_layout.specs.Layout.{capacityAt, recordsAt}
 use Rattle.table_layout.specs.Cells.{encode, decode}
-use Rattle.table_layout.specs.Facts.{recordAt}
+use Rattle.count_in_record.specs.declared.Counting.the-variants.{Done, LinksFull}
+use Rattle.count_in_record.specs.declared.Heard.{Heard}
+use Rattle.count_in_record.specs.Counting.{isCounted}
 use Rattle.table_changes.specs.Changes.{withRecords}
-use Rattle.table_changes.proofs.Parts.{time-set}
-use Rattle.table_originators.specs.Originators.{heldBy, Stands, Missing, countedAt, CountedIn}
-use Rattle.table_originators.proofs.Changed.{records-count, written-at, in-at}
+use Rattle.table_originators.specs.Originators.{Stands, Missing, standingAt, HeardAt, Made}
+use Rattle.table_originators.proofs.Changed.{records-count}
+use Rattle.table_originators.proofs.Heard.{not-counted, counted-done, links-full}
 use Rattle.call_receive_arrival.specs.declared.Arrival.{Arrival}
-use Rattle.call_receive_arrival.specs.Receiving.{callOf, after, Leaves, Fits, Taken, Decides, Counts, concluded}
-use Rattle.call_receive_arrival.proofs.Ways.{holding, way-counted, way-uncounted, way-10, way-first, way-next, first-few, way-11, way-stored}
-use Rattle.call_receive_arrival.proofs.Tables.{time-cells}
-use Rattle.call_receive_arrival.proofs.Endings.{message-is, link-is, ttl-is, sequence-is, originator-is, leaves-by, Concludes, concludes-by}
-
--- the table with the originator's record x, in cells that have that record and then the time
-held-cells : (c : List ℕ) {p o d : List ℕ} {m : Arrival} → Fits p o m → (x : TableRecord) → d ≡ encode (withRecords (put (m .originator) x (decode c .records)) (decode c)) → set d timeAt (m .ogm .time) ≡ encode (holding (decode c) (callOf p o m) (header p) x)
-held-cells c {p} {o} {d} {m} f x e =
-    ap (λ (l : List ℕ). set l timeAt (m .ogm .time)) (e ∙ ap (λ (k : ℕ). encode (withRecords (put k x (decode c .records)) (decode c))) (originator-is f))
-    ∙ time-set (withRecords (put (header p .originator) x (decode c .records)) (decode c)) (m .ogm .time)
+use Rattle.call_receive_arrival.specs.Receiving.{callOf, after, Leaves, Concluded, Fits, Decides}
+use Rattle.call_receive_arrival.proofs.Ways.{holding, way-kept, way-11, way-next, way-10, way-first}
+use Rattle.call_receive_arrival.proofs.Endings.{message-is, link-is, originator-is, concludes-left}
 
 module _ {c p o : List ℕ} {m : Arrival} {b : Bool} (w : Decides c p o m b) where
   abbrev s : TableState
   s = decode c
 
+  abbrev a : ReceiveArgs
+  a = callOf p o m
+
   f : Fits p o m
   f = w .taken .fits
 
-  -- by whether its link has a neighbour row
-  by-link : after c p o m ≡ decide table s (callOf p o m) (header p) b (lookup (header p .originator) (s .records))
-  by-link =
+  -- the cells are those of the table that they hold
+  same : c ≡ encode s
+  same = sym (w .taken .knows .cells)
+
+  -- by whether its link has a neighbour row, and by the originator's record
+  by-record : (x : Option TableRecord) → lookup (m .originator) (s .records) ≡ x → after c p o m ≡ decide table s a (header p) b x
+  by-record x e =
       w .ruled
-      ∙ ap (λ (t : Bool). decide table s (callOf p o m) (header p) t (lookup (header p .originator) (s .records))) (sym (w .link ∙ ap (λ (l : ℕ). hasKey l (s .rows)) (link-is f)))
+      ∙ ap₂ (decide table s a (header p)) (sym (w .link ∙ ap (λ (l : ℕ). hasKey l (s .rows)) (link-is f))) (ap (λ (k : ℕ). lookup k (s .records)) (sym (originator-is f)) ∙ e)
 
-  -- ---- of an originator whose record stands at place i
+  -- the cells of the table with a record x that a message makes, by the message as it came
+  held : (x : Ogm → TableRecord) {d : List ℕ} → d ≡ encode (withRecords (put (m .originator) (x (m .ogm)) (s .records)) s) → d ≡ encode (holding s (header p) (x (message a (header p))))
+  held x e = e ∙ ap₂ (λ (k : ℕ) (n : Ogm). encode (withRecords (put k (x n) (s .records)) s)) (originator-is f) (message-is f)
 
-  module _ {i : ℕ} (at : Stands c (m .originator) i) (d : Bool) (e : d ≡ isMarked (s .config) (decodeRecord (recordAt c i) .1) (m .ogm .link) (m .ogm .sequence)) where
-    found : lookup (header p .originator) (s .records) ≡ some (decodeRecord (recordAt c i) .1)
-    found = ap (λ (k : ℕ). lookup k (s .records)) (sym (originator-is f)) ∙ at .found
+  -- its link is best, and the route, by such a record
+  best-by : (x : Ogm → TableRecord) {best : Bool} → best ≡ table .isBest (s .config) (x (m .ogm)) (m .ogm .link) → best ≡ isBestBy table (s .config) a (some (x (message a (header p))))
+  best-by x e = e ∙ ap (λ (n : Ogm). table .isBest (s .config) (x n) (n .link)) (message-is f)
 
-    duplicate : d ≡ isDuplicate table (s .config) (callOf p o m) (header p) (lookup (header p .originator) (s .records))
-    duplicate =
-        let number : m .ogm .sequence ≡ header p .sequence % numbers = sym (mod-eq-of-lt (w .taken .sequence)) ∙ ap (λ (n : ℕ). n % numbers) (sequence-is f) in
-        e ∙ (λ j. isMarked (s .config) (decodeRecord (recordAt c i) .1) (link-is f j) (number j)) ∙ ap (isDuplicate table (s .config) (callOf p o m) (header p)) (sym found)
-
-    pub again-counts : (b && not d) ≡ true → Counts c p o m
-    again-counts t =
-        let bt : b ≡ true = and-left b (not d) t in
-        by-link ∙ ap (λ (x : Bool). decide table s (callOf p o m) (header p) x (lookup (header p .originator) (s .records))) bt
-        ∙ way-counted s (callOf p o m) (header p) (sym duplicate ∙ not-true d (and-right b (not d) t))
-
-    pub again-kept : (l : Bool) → l ≡ eqb (m .ogm .ttl) (decodeRecord (recordAt c i) .1 .lastTtl) → (b && not d) ≡ false → Concludes c p o (set c timeAt (m .ogm .time)) m i b (not d || l)
-    again-kept l el t =
-        let fresh : (not d || l) ≡ isFresh table (s .config) (callOf p o m) (header p) (lookup (header p .originator) (s .records)) =
-        λ j. not (duplicate j) || (el ∙ ap (λ (k : ℕ). eqb k (decodeRecord (recordAt c i) .1 .lastTtl)) (ttl-is f) ∙ ap (λ (x : Option TableRecord). maybe x false (λ y. eqb (header p .ttl) (y .lastTtl))) (sym found)) j in
-        concludes-by i (withTime table s (m .ogm .time)) (w .taken) (time-cells c (w .taken .knows) (m .ogm .time))
-        (by-link ∙ way-uncounted s (callOf p o m) (header p) b (not d || l) fresh (ap (λ (x : Bool). b && not x) (sym duplicate) ∙ t)) (at .at)
+  route-by : (x : Ogm → TableRecord) {route : Route} → route ≡ routeOf table (s .config) (some (x (m .ogm))) → route ≡ routeOf table (s .config) (some (x (message a (header p))))
+  route-by x e = e ∙ ap (λ (n : Ogm). routeOf table (s .config) (some (x n))) (message-is f)
 
   -- ---- of an originator that has no record, and would have it at place i
 
   module _ {i : ℕ} (at : Missing c (m .originator) i) where
-    none-held : lookup (header p .originator) (s .records) ≡ none
-    none-held = ap (λ (k : ℕ). lookup k (s .records)) (sym (originator-is f)) ∙ at .none
+    -- its link has no neighbour row
+    pub first-kept : b ≡ false → {route : Route} → route ≡ noRoute → {e q : List ℕ} {r : Received} → Concluded c p o m false false route e q r → Leaves e q r (after c p o m)
+    first-kept t er k =
+        concludes-left f s false true none (by-record none (at .none) ∙ ap (λ (x : Bool). decide table s a (header p) x none) t ∙ way-kept s a (header p) false none refl) same refl er k
 
-    -- so it is no duplicate
-    first-counts : b ≡ true → after c p o m ≡ counted table s (callOf p o m) (header p) true none
-    first-counts t =
-        by-link ∙ ap (λ (x : Bool). decide table s (callOf p o m) (header p) x (lookup (header p .originator) (s .records))) t
-        ∙ way-counted s (callOf p o m) (header p) (ap (isDuplicate table (s .config) (callOf p o m) (header p)) none-held)
-        ∙ ap (counted table s (callOf p o m) (header p) true) none-held
+    -- it is counted
+    counted-first : b ≡ true → after c p o m ≡ decide table s a (header p) true none
+    counted-first t = by-record none (at .none) ∙ ap (λ (x : Bool). decide table s a (header p) x none) t
 
-    pub first-kept : b ≡ false → (route : Route) → route ≡ noRoute → {q : List ℕ} {r : Received}
-        → answeredWriting (received r) q ≡ conclude (callOf p o m) (header p) false (leb ttlLeast (m .ogm .ttl) && (eqb (m .sender) (m .originator) || false)) route → Leaves (set c timeAt (m .ogm .time)) q r (after c p o m)
-    first-kept t route er {q} {r} l =
-        let a = callOf p o m in
-        let e : conclude a (header p) false (leb ttlLeast (m .ogm .ttl) && (eqb (m .sender) (m .originator) || false)) route ≡ concluded (withTime table s (m .ogm .time)) a (header p) b true =
-        (λ j. conclude a (header p) (sym t j) (leb ttlLeast (ttl-is f j) && (eqb (m .sender) (originator-is f j) || (sym t j && false))) (er j))
-        ∙ ap (λ (x : Option TableRecord). conclude a (header p) b (isPassedOn table (s .config) a (header p) b true x) (routeOf table (s .config) x)) (sym none-held) in
-        leaves-by (by-link ∙ way-uncounted s a (header p) b true (ap (isFresh table (s .config) a (header p)) (sym none-held)) (ap (λ (x : Bool). x && not (isDuplicate table (s .config) a (header p) (lookup (header p .originator) (s .records)))) t))
-        (record { replies = l ∙ e; leaves = time-cells c (w .taken .knows) (m .ogm .time) })
-
-    pub first-full : b ≡ true → getD c capacityAt 0 ≤ getD c recordsAt 0 → after c p o m ≡ refuse table (receive (callOf p o m)) s (numbered 10)
+    pub first-full : b ≡ true → getD c capacityAt 0 ≤ getD c recordsAt 0 → after c p o m ≡ refuse table (receive a) s (numbered 10)
     unfolding decode
-    first-full t h = first-counts t ∙ way-10 s (callOf p o m) (header p) true (omega (arith, records-count c))
+    first-full t h = counted-first t ∙ way-10 s a (header p) (omega (arith, records-count c))
 
-    pub first-made : b ≡ true → getD c recordsAt 0 < getD c capacityAt 0 → {d : List ℕ}
-        → d ≡ encode (withRecords (put (m .originator) (firstRecord (s .config) (m .ogm)) (s .records)) s) → Concludes c p o (set d timeAt (m .ogm .time)) m i true true
+    pub first-made : b ≡ true → getD c recordsAt 0 < getD c capacityAt 0 → {d : List ℕ} {route : Route} → Made c d (m .originator) (m .ogm) route
+        → {e q : List ℕ} {r : Received} → Concluded d p o m true true route e q r → Leaves e q r (after c p o m)
     unfolding decode
-    first-made t h {d} e =
-        let a = callOf p o m in
-        let x = firstRecord (s .config) (message a (header p)) in
-        concludes-by i (holding s a (header p) x) (w .taken) (held-cells c f x (e ∙ ap (λ (n : Ogm). encode (withRecords (put (m .originator) (firstRecord (s .config) n) (s .records)) s)) (message-is f)))
-        (first-counts t ∙ way-first s a (header p) true (omega (arith, records-count c)) ∙ way-stored s a (header p) true x (first-few s a (header p)))
-        (subst (λ (k : ℕ). IsAt (heldBy (withRecords (put k x (s .records)) s)) (m .originator) i) (originator-is f) (in-at c (m .originator) i at x))
+    first-made t h g k =
+        let x = firstRecord (s .config) in
+        concludes-left f (holding s (header p) (x (message a (header p)))) true true (some (x (message a (header p)))) (counted-first t ∙ way-first s a (header p) (omega (arith, records-count c))) (held x (g .cells))
+        (ap (λ (y : Bool). y && true) (best-by x (sym (g .best)))) (route-by x (g .route)) k
 
--- ---- a message that is counted in the record at place i, unless that would leave too many links
+  -- ---- of an originator whose record stands at place i, which is told of it
 
-module _ {c p o : List ℕ} {m : Arrival} (t : Taken c p o m) (n : Counts c p o m) {i : ℕ} (at : Stands c (m .originator) i) {d : List ℕ} {r : Bool}
-    (k : CountedIn c d (m .originator) i (m .ogm) r) where
-  abbrev next : TableRecord
-  next = countedAt c i (m .ogm)
+  module _ {i : ℕ} (at : Stands c (m .originator) i) {d : List ℕ} {g : Heard} (h : HeardAt c d (m .originator) i (m .ogm) b g) where
+    abbrev x : TableRecord
+    x = standingAt c i
 
-  by-record : after c p o m ≡ storeCounted table (decode c) (callOf p o m) (header p) true next
-  by-record =
-      let x = decodeRecord (recordAt c i) .1 in
-      n ∙ ap (counted table (decode c) (callOf p o m) (header p) true) (ap (λ (j : ℕ). lookup j (decode c .records)) (sym (originator-is (t .fits))) ∙ at .found)
-      ∙ way-next (decode c) (callOf p o m) (header p) true x
-      ∙ ap (λ (g : Ogm). storeCounted table (decode c) (callOf p o m) (header p) true (nextRecord (decode c .config) g x)) (sym (message-is (t .fits)))
+    abbrev next : Ogm → TableRecord
+    next n = nextRecord (s .config) n x
 
-  pub count-full : r ≡ false → after c p o m ≡ refuse table (receive (callOf p o m)) (decode c) (numbered 11)
-  count-full e = by-record ∙ way-11 (decode c) (callOf p o m) (header p) true next (leb-false (length (next .links)) linkMost (sym (k .taken) ∙ e))
+    -- whether it is counted, as the rules say it
+    counted-is : isCounted (s .config) (m .ogm) b x ≡ (b && not (isDuplicate table (s .config) a (header p) (some x)))
+    counted-is = ap (λ (n : Ogm). isCounted (s .config) n b x) (message-is f)
 
-  pub count-same : r ≡ false → d ≡ c
-  count-same e = k .cells ∙ ap (λ (x : Bool). encode (cond x (withRecords (put (m .originator) next (decode c .records)) (decode c)) (decode c))) e ∙ t .knows .cells
+    fresh : Bool
+    fresh = isFresh table (s .config) a (header p) (some x)
 
-  pub count-made : r ≡ true → Concludes c p o (set d timeAt (m .ogm .time)) m i true true
-  count-made e =
-      concludes-by i (holding (decode c) (callOf p o m) (header p) next) t
-      (held-cells c (t .fits) next (k .cells ∙ ap (λ (x : Bool). encode (cond x (withRecords (put (m .originator) next (decode c .records)) (decode c)) (decode c))) e))
-      (by-record ∙ way-stored (decode c) (callOf p o m) (header p) true next (leb-true (length (next .links)) linkMost (sym (k .taken) ∙ e)))
-      (subst (λ (j : ℕ). IsAt (heldBy (withRecords (put j next (decode c .records)) (decode c))) (m .originator) i) (originator-is (t .fits)) (written-at c (m .originator) i at next))
+    fresh-is : g .fresh ≡ fresh
+    unfolding fresh
+    fresh-is = h .answers .fresh ∙ ap (λ (n : Ogm). not (isMarked (s .config) x (n .link) (sequenceOf n)) || eqb (n .ttl) (x .lastTtl)) (message-is f)
+
+    -- the rules come to the record's answers
+    by-standing : after c p o m ≡ decide table s a (header p) b (some x)
+    by-standing = by-record (some x) (at .found)
+
+    pub again-full : g .counting ≡ LinksFull → after c p o m ≡ refuse table (receive a) s (numbered 11)
+    again-full e =
+        let l = links-full h e in
+        by-standing ∙ way-11 s a (header p) x b (sym counted-is ∙ l .counted) (subst (λ (n : Ogm). linkMost < length (next n .links)) (message-is f) (l .many))
+
+    pub again-same : g .counting ≡ LinksFull → d ≡ c
+    again-same e = links-full h e .cells
+
+    pub again-done : g .counting ≡ Done → {e q : List ℕ} {r : Received} → Concluded d p o m b (b && (g .best && g .fresh)) (g .route) e q r → Leaves e q r (after c p o m)
+    unfolding fresh
+    again-done ed {e} {q} {r} k = go (isCounted (s .config) (m .ogm) b x) refl
+      where
+        go : (t : Bool) → isCounted (s .config) (m .ogm) b x ≡ t → Leaves e q r (after c p o m)
+        go true et =
+            let w = counted-done h et ed in
+            let y = next (message a (header p)) in
+            concludes-left f (holding s (header p) y) b fresh (some y)
+            (by-standing ∙ way-next s a (header p) x b (sym counted-is ∙ et) (subst (λ (n : Ogm). length (next n .links) ≤ linkMost) (message-is f) (w .0)))
+            (held next (w .1 .cells)) (λ j. b && (best-by next (w .1 .best) j && fresh-is j)) (route-by next (w .1 .route)) k
+        go false et =
+            let w = not-counted h et in
+            concludes-left f s b fresh (some x) (by-standing ∙ way-kept s a (header p) b (some x) (sym counted-is ∙ et)) (w .cells ∙ same)
+            (λ j. b && (best-by (λ n. x) (w .best) j && fresh-is j)) (w .route) k

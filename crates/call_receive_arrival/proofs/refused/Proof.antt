@@ -1,6 +1,5 @@
 -- `call_receive_arrival::refused` meets its contract: the fault's number and place, and no route. Assumes nothing.
 use mathlib.Core.Path.{ap, _∙_}
-use Rattle.rules.specs.declared.Route.{Route}
 use Rattle.rules.specs.Calls.{receivedAs}
 use borrow.Author.Needs.{needs}
 use Rattle.call_receive_arrival.proofs.refused.Statement.{statement}

@@ -1,16 +1,14 @@
 -- `call_receive_arrival::verdict` meets its contract: the time is set, and the route read from the table that is left. Assumes nothing.
-use mathlib.Core.Path.{_≡_, sym, ap, _∙_}
+use mathlib.Core.Path.{_≡_, ap, _∙_}
 use mathlib.Core.List.{List}
 use Prim.Native.Nat.{ℕ}
 use native.Mathlib.Omega.{arith}
-use denote.Ref.{now}
 use lib.ListN.{length, set}
-use Rattle.rules.specs.declared.Route.{Route}
 use Rattle.rules.specs.Calls.{receivedAs}
 use Rattle.rules.specs.Rules.{withTime}
 use Rattle.rules.specs.Table.{TableState, table}
 use Rattle.table_layout.specs.Layout.{timeAt}
-use Rattle.table_layout.specs.Cells.{encode, decode}
+use Rattle.table_layout.specs.Cells.{encode}
 use Rattle.table_layout.proofs.Parts.{encoded-size}
 use Rattle.table_changes.proofs.Parts.{time-set}
 use Rattle.call_receive_arrival.specs.Receiving.{verdictOf, Ends}

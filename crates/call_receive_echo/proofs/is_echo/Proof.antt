@@ -4,7 +4,6 @@ use Rattle.call_receive_echo.proofs.Interfaces.{echo-is}
 use borrow.Author.Needs.{needs}
 use Rattle.call_receive_echo.proofs.is_echo.Statement.{statement}
 use Rattle.call_receive_echo.proofs.is_echo.Tie as tie
-use Rattle.packet_codec.proofs.output.is_direct.Reads as is-direct-reads
 
 returns : tie.Need-returns
 returns c =

@@ -5,7 +5,7 @@ use lib.ListN.{getD, length-set}
 use Rattle.wire.specs.Packet.{header}
 use Rattle.table_layout.specs.Layout.{rowsAt}
 use Rattle.table_neighbours.specs.declared.Echo.{Echo}
-use Rattle.table_neighbours.specs.Neighbours.{EchoTaken, Recorded, NoRoom}
+use Rattle.table_neighbours.specs.Neighbours.{EchoTaken, Recorded}
 use Rattle.call_receive_arrival.specs.Receiving.{callOf}
 use Rattle.call_receive_arrival.proofs.Endings.{originator-is, leaves-by, refused-left, verdict-leaves}
 use Rattle.call_receive_arrival.proofs.Rows.{lent, rows-held}
