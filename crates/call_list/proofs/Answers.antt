@@ -22,6 +22,8 @@ use Rattle.table_record.specs.Links.{linkIn, linkAt}
 use Rattle.table_record.specs.Record.{linksAt, linksPart, linksOf, decodeRecord}
 use Rattle.table_record.proofs.Links.{length-links, link-of}
 use Rattle.table_record.proofs.Rows.{small-pair}
+use Rattle.rules.proofs.Parts.{record-parts}
+use Rattle.rules.proofs.WellFormed.{parts}
 use Rattle.table_layout.specs.Cells.{decode, wellFormed}
 use Rattle.table_layout.specs.Facts.{recordAt}
 use Rattle.table_layout.specs.Calls.{Performed, Promised}
@@ -47,8 +49,9 @@ module _ (c : List ℕ) (o i : ℕ) (s : Stands c o i) where
       passes : all tests (linksOf row) ≡ true
       passes =
           let p : ℕ × TableRecord → Bool = λ e. and (R.recordTests (decode c .config) (decode c .time) e) in
-          and-at (R.recordTests (decode c .config) (decode c .time) (o, decodeRecord row .1))
-          (lookup-all p o (decodeRecord row .1) (decode c .records) (and-at (R.tableTests (decode c)) (s .holds .knows .valid) 9) (s .found)) 8
+          record-parts (decode c .config) (decode c .time) (o, decodeRecord row .1)
+          (lookup-all p o (decodeRecord row .1) (decode c .records) (parts (decode c) (s .holds .knows .valid) .records .each) (s .found))
+          .each
 
       small : (j : ℕ) → j < getD row linksAt 0 → linkAt (linksPart row) j .0 < pairs
       small j h =

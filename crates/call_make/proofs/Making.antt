@@ -18,7 +18,7 @@ use Rattle.window.specs.Window.{numbers}
 use Rattle.wire.specs.Check.{given}
 use Rattle.rules.specs.declared.Settings.{Settings}
 use Rattle.rules.specs.declared.Interface.{Interface}
-use Rattle.rules.specs.Settings.{MakeArgs, configOf, interfaceTests, settingsOk, allowed, makeTests, makeAllowed, cellsNeeded, headCells, interfaceAreaCells, neighbourAreaCells, tableHead, recordCells, interfaceMost, interfaceCells, capacityMost, within, differ, ownAddresses}
+use Rattle.rules.specs.Settings.{addresses, MakeArgs, configOf, interfaceTests, settingsOk, allowed, makeTests, makeAllowed, cellsNeeded, headCells, interfaceAreaCells, neighbourAreaCells, tableHead, recordCells, interfaceMost, interfaceCells, capacityMost, within, differ, ownAddresses}
 use Rattle.rules.specs.Calls.{make, answered, made, refusal}
 use Rattle.rules.specs.Rules.{OutcomeOf, unless, refuse, begin, fresh, step}
 use Rattle.rules.specs.Table.{table}
@@ -51,8 +51,8 @@ four d (a ∷ b ∷ c ∷ x ∷ []) e = refl
 four d (a ∷ b ∷ c ∷ x ∷ y ∷ rows) e = let z : suc (suc (suc (suc (suc (length rows))))) ≡ 4 = e in absurd (omega arith)
 
 -- in their ranges, which their types see to
-pub in-range : (i : Interface) → i .own < 4294967296 → i .broadcast < 4294967296 → i .first < numbers → and (interfaceTests i) ≡ true
-in-range i o b f = both (lt-ltb (i .own) 4294967296 o) (both (lt-ltb (i .broadcast) 4294967296 b) (both (lt-ltb (i .first) numbers f) refl))
+pub in-range : (i : Interface) → i .own < addresses → i .broadcast < addresses → i .first < numbers → and (interfaceTests i) ≡ true
+in-range i o b f = both (lt-ltb (i .own) addresses o) (both (lt-ltb (i .broadcast) addresses b) (both (lt-ltb (i .first) numbers f) refl))
 
 pub four-in-range : {rows : List Interface} {a b c d : Interface} → rows ≡ a ∷ b ∷ c ∷ d ∷ [] → and (interfaceTests a) ≡ true → and (interfaceTests b) ≡ true → and (interfaceTests c) ≡ true → and (interfaceTests d) ≡ true
     → all (λ i. and (interfaceTests i)) rows ≡ true

@@ -3,7 +3,7 @@ use mathlib.Core.Path.{_≡_, refl}
 use mathlib.Core.Bool.{Bool, true, false, _&&_, _||_, not, false≢true}
 use mathlib.Core.Logic.{_⊎_, inl, inr}
 use mathlib.Core.Option.{Option, none, some}
-use mathlib.Core.List.{List, [], _∷_}
+use mathlib.Core.List.{[], _∷_}
 use Prim.Native.Nat.{ℕ, _≤_, _<_}
 use lib.Dec.{eqb}
 use lib.ListN.{length}
@@ -21,7 +21,7 @@ use Rattle.rules.specs.Settings.{Config, neighbourMost, linkMost, isOwn, isBroa
 use Rattle.rules.specs.Calls.{ReceiveArgs, receive}
 use Rattle.rules.specs.declared.Ogm.{Ogm}
 use Rattle.rules.specs.Rules.{sequenceOf, OutcomeOf, branch, unless, receiveFault, linkBy, message, isEcho, isDuplicate, isFresh, isPassedOn, routeOf, withTime, withRows, refuse, verdict, conclude, storeCounted, counted, uncounted, decide, takeEcho, judge, step}
-use Rattle.rules.specs.Table.{TableRecord, TableState, settle, firstRecord, nextRecord, recordEcho, table}
+use Rattle.rules.specs.Table.{TableRecord, TableState, settle, withLinks, begun, firstRecord, nextRecord, recordEcho, table}
 use Rattle.table_changes.specs.Changes.{withRecords}
 use Rattle.call_receive_arrival.specs.Receiving.{ownMessage, foreign}
 
@@ -33,8 +33,8 @@ holding s h x = withRecords (put (h .originator) x (s .records)) s
 abbrev pub concludes : TableState → ReceiveArgs → Header → (bidirectional fresh : Bool) → Option TableRecord → OutcomeOf table
 concludes s a h b f x = record { reply = conclude a h b (isPassedOn table (s .config) a h b f x) (routeOf table (s .config) x); state = withTime table s (a .time) }
 
-settle-few : (κ : Config) (m : Ogm) (c b v : ℕ) (ls : List (ℕ × ℕ)) → length (settle κ m c b v ls .links) ≤ length ls
-settle-few κ m c b v ls = keep-length (λ (e : ℕ × ℕ). hasMark (e .1) || eqb (e .0) (settle κ m c b v ls .best)) ls
+settle-few : (κ : Config) (m : Ogm) (v : ℕ) (x : TableRecord) → length (settle κ m v x .links) ≤ length (x .links)
+settle-few κ m v x = keep-length (λ (e : ℕ × ℕ). hasMark (e .1) || eqb (e .0) (settle κ m v x .best)) (x .links)
 
 and-false : (t : Bool) → (t && false) ≡ false
 and-false true = refl
@@ -136,9 +136,8 @@ module _ (s : TableState) (a : ReceiveArgs) where
     unfolding firstRecord
     first-few =
         let m = message a h in
-        let n = sequenceOf m in
-        let v = mark 0 (distance n n) in
-        omega (arith, settle-few (s .config) m n (m .link) v ((m .link, v) ∷ []))
+        let v = mark 0 (distance (sequenceOf m) (sequenceOf m)) in
+        omega (arith, settle-few (s .config) m v (withLinks ((m .link, v) ∷ []) (begun m)))
 
     pub way-10 : s .config .settings .capacity ≤ length (s .records) → decide table s a h true none ≡ refuse table (receive a) s (numbered 10)
     unfolding decide branch counted unless

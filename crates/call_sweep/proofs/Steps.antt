@@ -9,7 +9,6 @@ use borrow.Rule.Slice.PartMut.{putMid}
 use lib.Dec.{leb}
 use lib.ListN.{length, take, drop, set, getD}
 use Rattle.lists.specs.Lists.{and, keep, all}
-use Rattle.lists.proofs.Tests.{and-at}
 use Rattle.lists.proofs.Lists.{all-weaken}
 use Rattle.cells.proofs.Lent.{tail-is}
 use Rattle.rules.specs.declared.Swept.{Swept}
@@ -18,6 +17,7 @@ use Rattle.rules.specs.Rules.{isExpired, purge}
 use Rattle.rules.specs.Table.{TableRecord, table}
 use Rattle.rules.specs.WellFormed.{recordTests}
 use Rattle.rules.proofs.WellFormed.{Wf, parts}
+use Rattle.rules.proofs.Parts.{record-parts}
 use Rattle.table_layout.specs.Layout.{purgeAt, capacityAt, timeAt, recordsAt, recordsFrom}
 use Rattle.table_layout.specs.Cells.{recordArea, encode, decode}
 use Rattle.table_layout.specs.Facts.{Knows}
@@ -67,7 +67,7 @@ module _ (c : List ℕ) (k : Knows c) (t : ℕ) (late : getD c timeAt 0 ≤ t) w
   past =
       let w : Wf (decode c) = parts (decode c) (k .valid) in
       all-weaken (λ e. and (recordTests (decode c .config) (decode c .time) e)) (λ e. leb (e .1 .time) t)
-      (λ e h. le-leb (e .1 .time) t (omega (arith, time-read c, leb-true (e .1 .time) (decode c .time) (and-at (recordTests (decode c .config) (decode c .time) e) h 3))))
+      (λ e h. le-leb (e .1 .time) t (omega (arith, time-read c, leb-true (e .1 .time) (decode c .time) (record-parts (decode c .config) (decode c .time) e h .time))))
       (decode c .records) (w .records .each)
 
   held : RecordsHeld (getD c recordsAt 0) t (drop recordsFrom c)

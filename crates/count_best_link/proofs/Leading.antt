@@ -2,18 +2,16 @@
 use mathlib.Core.Path.{_≡_, refl, sym, ap, _∙_}
 use mathlib.Core.List.{List, [], _∷_}
 use mathlib.Core.Bool.{Bool, true, false, cond, _&&_, _||_, and-true, and-false}
-use Prim.Native.Nat.{ℕ, _+_, _*_, _-_, _≤_, _<_}
-use native.Mathlib.Nat.{sub-zero}
+use Prim.Native.Nat.{ℕ, _+_, _-_, _≤_, _<_}
 use native.Mathlib.Omega.{arith}
 use lib.Dec.{eqb}
-use lib.ListN.{drop}
 use borrow.Author.Tests.{eq-eqb}
 use Rattle.lists.specs.Lists.{all}
 use Rattle.lists.specs.Keyed.{mapValues}
 use Rattle.window.specs.Window.{shift, count}
-use Rattle.rules.specs.Settings.{Config, linkCells}
+use Rattle.rules.specs.Settings.{Config}
 use Rattle.table_record.specs.Links.{linkAt}
-use Rattle.table_record.proofs.Links.{links-one, links-none}
+use Rattle.table_record.proofs.Links.{linksLeft, left-all, left-one, left-none}
 use Rattle.count_best_link.specs.declared.Step.{Step}
 use Rattle.count_best_link.specs.BestLink.{Links, moved, yields}
 
@@ -43,10 +41,10 @@ leading-end {κ} {key} {own} {top} l e = sym (and-true (eqb top key)) ∙ ap (λ
 
 -- those from link i on, once current has moved up
 abbrev pub from : List ℕ → Step → (n i : ℕ) → Links
-from c step n i = moved step (n - i) (drop (i * linkCells) c)
+from c step n i = mapValues (shift (step .policy .window) (step .up)) (linksLeft n c i)
 
 pub from-start : (c : List ℕ) (step : Step) (n : ℕ) → from c step n 0 ≡ moved step n c
-from-start c step n = ap (λ (k : ℕ). moved step k c) (sub-zero n)
+from-start c step n = ap (mapValues (shift (step .policy .window) (step .up))) (left-all n c)
 
 -- link i, as it is read: its key and its marks once current has moved up
 module _ (c : List ℕ) (step : Step) (n i key′ v : ℕ) (h : i < n) (ek : key′ ≡ linkAt c i .0) (ev : v ≡ shift (step .policy .window) (step .up) (linkAt c i .1)) where
@@ -57,10 +55,7 @@ module _ (c : List ℕ) (step : Step) (n i key′ v : ℕ) (h : i < n) (ek : key
   more = from c step n (i + 1)
 
   pub moved-one : from c step n i ≡ this ∷ more
-  moved-one =
-      let left : n - i - 1 ≡ n - (i + 1) = omega arith in
-      ap (mapValues (shift (step .policy .window) (step .up))) (links-one c i (n - i) (omega arith))
-      ∙ (λ j. (sym ek j, sym ev j) ∷ moved step (left j) (drop ((i + 1) * linkCells) c))
+  moved-one = ap (mapValues (shift (step .policy .window) (step .up))) (left-one n c i h) ∙ (λ j. (sym ek j, sym ev j) ∷ more)
 
   -- it stands higher or not
   leads-one : (κ : Config) (key own : ℕ) {high : ℕ} {t : Bool} → high ≡ own → yields κ key high this ≡ t → leads κ key own (from c step n i) ≡ (t && leads κ key own more)
@@ -85,4 +80,4 @@ module _ (c : List ℕ) (step : Step) (n i key′ v : ℕ) (h : i < n) (ek : key
           }
 
 pub moved-none : (c : List ℕ) (step : Step) (n i : ℕ) → n ≤ i → from c step n i ≡ []
-moved-none c step n i h = ap (mapValues (shift (step .policy .window) (step .up))) (links-none c i (n - i) (omega arith))
+moved-none c step n i h = ap (mapValues (shift (step .policy .window) (step .up))) (left-none n c i h)

@@ -32,7 +32,7 @@ use Rattle.count_links.proofs.Cells.{cellsOf}
 use Rattle.count_links.proofs.Places.{mark-has}
 use Rattle.count_in_record.specs.declared.Counting.{Counting}
 use Rattle.count_in_record.specs.declared.Counting.the-variants.{Done, LinksFull}
-use Rattle.count_in_record.specs.Counting.{endOf, hasRoom, Counted}
+use Rattle.count_in_record.specs.Counting.{Counted}
 
 -- five fields and the links written
 pub store-cells : (row links : List ℕ) (a b c d e : ℕ) → length row ≡ recordCells → length links ≡ linkMost * linkCells

@@ -4,9 +4,9 @@ use mathlib.Core.Path.{_≡_, refl, sym, ap, ap₂, _∙_, subst}
 use mathlib.Core.Bool.{Bool, true, false, cond, _&&_, _||_, false≢true, or-true}
 use mathlib.Core.Option.{Option, none, some, Option·map}
 use mathlib.Core.List.{List, [], _∷_}
-use lib.Dec.{eqb, leb}
+use lib.Dec.{eqb}
 use native.Mathlib.Omega.{arith}
-use borrow.Author.Tests.{ltb-true, eqb-true, eqb-false, lt-ltb, eq-eqb, ne-eqb, leb-true, le-leb}
+use borrow.Author.Tests.{ltb-true, eqb-true, eqb-false, lt-ltb, eq-eqb, ne-eqb}
 use Rattle.lists.specs.Lists.{maybe, keep, elem}
 use Rattle.lists.specs.Keyed.{lookup, mapValues}
 use Rattle.lists.proofs.Tests.{both, and-left, and-right, or-else}
@@ -16,7 +16,7 @@ use Rattle.lists.proofs.Rising.{Rising, rising-mapValues, found-once}
 use Rattle.window.specs.Window.{distance, inside, count, tally}
 use Rattle.window.proofs.Numbers.{distance-lt}
 use Rattle.window.proofs.Words.{tally-none, tally-same, tally-most}
-use Rattle.rules.specs.Settings.{Config, MakeArgs, configOf, makeAllowed}
+use Rattle.rules.specs.Settings.{Config, MakeArgs, configOf, allowed, makeAllowed}
 use Rattle.rules.specs.Calls.{Call}
 use Rattle.rules.specs.declared.Ogm.{Ogm}
 use Rattle.rules.specs.Rules.{sequenceOf, notHigher, fresh}
@@ -27,7 +27,7 @@ use Rattle.history.specs.TableOfBook.{recordOf}
 use Rattle.history.specs.History.{after}
 use Rattle.history.specs.Demand.{Stood, now, before, Later, past, Stayed, NoneHigher, Best, Stands, bookThen, Demand3}
 use Rattle.history.proofs.Sound.{fresh-sound, after-sound}
-use Rattle.history.proofs.Log.{W, absent}
+use Rattle.history.proofs.Log.{W, absent, none-higher}
 use Rattle.history.proofs.Records.{count-marks, marks-at, marked-stays}
 use Rattle.history.proofs.History.{history}
 
@@ -100,7 +100,7 @@ module _ (κ : Config) (l n : ℕ) where
 
 -- ---- the best link
 
-module _ (κ : Config) where
+module _ (κ : Config) (hκ : allowed κ ≡ true) where
   count-absent : (s : Log) (l : ℕ) → elem l (logLinks s) ≡ false → logCount κ s l ≡ 0
   unfolding logCount
   count-absent s l h = tally-none (W κ) (λ k. stays κ s l (distance (current κ s) k)) (λ k _. absent κ s l (distance (current κ s) k) h)
@@ -109,17 +109,13 @@ module _ (κ : Config) where
   abbrev test : Log → ℕ → Bool
   test s k = eqb k (latest s .link) || notHigher κ (logCount κ s k) (logCount κ s (latest s .link))
 
-  zero-lowest : (y : ℕ) → notHigher κ 0 y ≡ true
-  unfolding notHigher
-  zero-lowest y = le-leb 0 y (omega arith)
-
   from-test : (s : Log) → noneHigher κ s (latest s .link) ≡ true → NoneHigher κ s
   unfolding noneHigher
   from-test s h l n = go (elem l (logLinks s)) refl
     where
       go : (t : Bool) → elem l (logLinks s) ≡ t → notHigher κ (logCount κ s l) (logCount κ s (latest s .link)) ≡ true
       go true e = or-else (eqb l (latest s .link)) _ (all-elem (test s) (logLinks s) h l e) (ne-eqb l (latest s .link) n)
-      go false e = ap (λ x. notHigher κ x (logCount κ s (latest s .link))) (count-absent s l e) ∙ zero-lowest (logCount κ s (latest s .link))
+      go false e = ap (λ x. notHigher κ x (logCount κ s (latest s .link))) (count-absent s l e) ∙ none-higher κ hκ s
 
   to-test : (s : Log) → NoneHigher κ s → noneHigher κ s (latest s .link) ≡ true
   unfolding noneHigher
@@ -158,7 +154,7 @@ module _ (κ : Config) where
 
 -- ---- a record stands as its log says
 
-module _ (κ : Config) (s : Log) where
+module _ (κ : Config) (hκ : allowed κ ≡ true) (s : Log) where
   how-many : (l : ℕ) → count (marksAt (recordOf κ s .links) l) ≡ tally (W κ) (λ k. isMarked κ (recordOf κ s) l (distance (current κ s) k))
   unfolding logCount
   how-many l =
@@ -171,7 +167,7 @@ module _ (κ : Config) (s : Log) where
         window = λ l n h. ((λ e. stayed κ l n s (sym (marked-stays κ s l n h) ∙ e)), (λ r. marked-stays κ s l n h ∙ back κ l n s (r .at) (r .stood) (r .link) (r .number) (r .inside)));
         howMany = how-many;
         most = λ l. rw (how-many l) (tally-most (W κ) (λ k. isMarked κ (recordOf κ s) l (distance (current κ s) k)));
-        best = best-is κ s;
+        best = best-is κ hκ s;
       }
 
 -- ---- what stands under an address in a table that is a book's
@@ -190,11 +186,11 @@ demand3 cells a cs h =
     let p = make-allowed cells a h in
     let e = history cells (configOf a) p cs .1 in
     let b = bookThen cells a cs in
-    let r = after-sound book cells (fresh book (configOf a)) (fresh-sound book (configOf a) p) cs .rise in
+    let sound = after-sound book cells (fresh book (configOf a)) (fresh-sound book (configOf a) p) cs in
     let found : (o : ℕ) (x : Option Log) → lookup o (b .records) ≡ x → keep (λ (y : ℕ × TableRecord). eqb o (y .0)) (after table cells (fresh table (configOf a)) cs .records) ≡ maybe (Option·map (recordOf (b .config)) x) [] (λ v. (o, v) ∷ []) =
-    λ o x g. ap (λ (t : TableState). keep (λ (y : ℕ × TableRecord). eqb o (y .0)) (t .records)) e ∙ under-is (b .config) (b .records) r o x g in
+    λ o x g. ap (λ (t : TableState). keep (λ (y : ℕ × TableRecord). eqb o (y .0)) (t .records)) e ∙ under-is (b .config) (b .records) (sound .rise) o x g in
     record {
       same = history cells (configOf a) p cs .0;
       nothing = λ o g. found o none g;
-      one = λ o s g. (recordOf (b .config) s, found o (some s) g, subst (λ (t : TableState). Stands (t .config) s (recordOf (b .config) s)) (sym e) (stands (b .config) s));
+      one = λ o s g. (recordOf (b .config) s, found o (some s) g, subst (λ (t : TableState). Stands (t .config) s (recordOf (b .config) s)) (sym e) (stands (b .config) (sound .allowed) s));
     }

@@ -4,7 +4,7 @@ use mathlib.Core.Path.{_≡_, refl, sym, ap, ap₂, _∙_}
 use mathlib.Core.Bool.{Bool, true, false, cond, _&&_, _||_, and-false}
 use lib.Dec.{eqb, leb}
 use native.Mathlib.Omega.{arith}
-use borrow.Author.Tests.{ltb-false, lt-ltb, le-ltb, eq-eqb, leb-true, leb-false}
+use borrow.Author.Tests.{ltb-false, lt-ltb, le-ltb, eq-eqb, leb-true, leb-false, le-leb}
 use Rattle.lists.specs.Lists.{elem}
 use Rattle.lists.proofs.Tests.{both, and-left, or-neither}
 use Rattle.lists.proofs.Keyed.{elem-putKey}
@@ -13,7 +13,7 @@ use Rattle.window.proofs.Numbers.{distance-back, distance-self, distance-higher
 use Rattle.window.proofs.Words.{some-tally}
 use Rattle.rules.specs.Settings.{Config, allowed}
 use Rattle.rules.specs.declared.Ogm.{Ogm}
-use Rattle.rules.specs.Rules.{sequenceOf}
+use Rattle.rules.specs.Rules.{sequenceOf, notHigher}
 use Rattle.rules.proofs.Config.{window-low, window-high}
 use Rattle.rules.proofs.Counting.{sequence-lt, advance-lt, advance-inside}
 use Rattle.history.specs.Book.{Log, one, cons, latest, current, came, stays, logCount, logLinks}
@@ -110,8 +110,13 @@ module _ (κ : Config) where
     latest-stays (cons m s) = ap₂ (λ (a b : Bool). a && (b || stays κ s (m .link) (sequenceOf m))) (lt-ltb (distance (current κ (cons m s)) (sequenceOf m)) W (latest-in (cons m s))) (came-latest m)
 
     -- so its link has a mark
-    pub latest-some : (s : Log) → 0 < logCount κ s (latest s .link)
+    latest-some : (s : Log) → 0 < logCount κ s (latest s .link)
     unfolding logCount
     latest-some s =
         some-tally W (λ k. stays κ s (latest s .link) (distance (current κ s) k)) (distance (current κ s) (sequenceOf (latest s))) (latest-in s)
         (ap (stays κ s (latest s .link)) (distance-back (current κ s) (sequenceOf (latest s)) (current-lt s) (sequence-lt (latest s))) ∙ latest-stays s)
+
+    -- and one without a mark is not higher
+    pub none-higher : (s : Log) → notHigher κ 0 (logCount κ s (latest s .link)) ≡ true
+    unfolding notHigher
+    none-higher s = le-leb 0 (logCount κ s (latest s .link)) (omega (arith, latest-some s))

@@ -6,7 +6,7 @@ use mathlib.Core.Option.{Option}
 use mathlib.Core.List.{List, [], _∷_}
 use lib.Dec.{ltb, eqb, leb}
 use native.Mathlib.Omega.{arith}
-use borrow.Author.Tests.{ltb-true, ltb-false, eq-eqb, le-leb}
+use borrow.Author.Tests.{ltb-true, ltb-false, eq-eqb}
 use Rattle.lists.specs.Lists.{maybe, keep, elem}
 use Rattle.lists.specs.Keyed.{put, putKey, mapValues, tabulate}
 use Rattle.lists.proofs.Tests.{by-test, cond-same, or-right, or-neither}
@@ -19,12 +19,12 @@ use Rattle.window.proofs.Window.{laws, word-laws}
 use Rattle.rules.specs.Settings.{Config, allowed}
 use Rattle.rules.specs.declared.Ogm.{Ogm}
 use Rattle.rules.specs.Rules.{sequenceOf, notHigher}
-use Rattle.rules.specs.Table.{TableRecord, marksAt, isHighest, settle, firstRecord, nextRecord, isMarked}
+use Rattle.rules.specs.Table.{TableRecord, marksAt, isHighest, settle, withLinks, moveTo, firstRecord, nextRecord, isMarked}
 use Rattle.rules.proofs.Config.{window-low, window-high}
 use Rattle.rules.proofs.Counting.{sequence-lt}
 use Rattle.history.specs.Book.{Log, one, cons, current, stays, logCount, logLinks, noneHigher, logBest, isHeld, heldLinks}
 use Rattle.history.specs.TableOfBook.{marksOf, recordOf}
-use Rattle.history.proofs.Log.{W, current-lt, outside-false, absent, inside-below, stays-next, latest-in, latest-some}
+use Rattle.history.proofs.Log.{W, current-lt, outside-false, absent, inside-below, stays-next, latest-in, none-higher}
 
 -- ---- the words of a log's links
 
@@ -140,11 +140,6 @@ module _ (κ : Config) (h : allowed κ ≡ true) (m : Ogm) (s : Log) where
       ap (λ (ls : List (ℕ × ℕ)). marksAt ls (m .link)) (mapValues-tabulate up (marksOf κ s) (heldLinks κ s))
       ∙ marksAt-tabulate κ s (λ l. up (marksOf κ s l)) (m .link) (heldLinks κ s) (λ e. ap up (marks-off κ s (m .link) e) ∙ up-zero)
 
-  -- a link with no mark is not higher than one with a mark
-  none-notHigher : (y : ℕ) → 0 < y → notHigher κ 0 y ≡ true
-  unfolding notHigher
-  none-notHigher y l = le-leb 0 y (omega arith)
-
   -- no other held link is higher: no other link at all is
   highest-next : isHighest κ (m .link) (marksOf κ (cons m s) (m .link)) among ≡ noneHigher κ (cons m s) (m .link)
   unfolding noneHigher logLinks
@@ -153,7 +148,7 @@ module _ (κ : Config) (h : allowed κ ≡ true) (m : Ogm) (s : Log) where
       all-map (λ l. (l, marksOf κ (cons m s) l)) _ (putKey (m .link) (heldLinks κ s))
       ∙ all-same _ p (λ l. ap₂ (λ x y. eqb l (m .link) || notHigher κ x y) (count-marks κ (cons m s) l) (count-marks κ (cons m s) (m .link))) (putKey (m .link) (heldLinks κ s))
       ∙ all-putKey p (isHeld κ s) (m .link)
-      (λ l e q. ap₂ (λ (t : Bool) (n : ℕ). t || notHigher κ n (logCount κ (cons m s) (m .link))) e (none-next l e q) ∙ none-notHigher (logCount κ (cons m s) (m .link)) (latest-some κ h (cons m s))) (logLinks s)
+      (λ l e q. ap₂ (λ (t : Bool) (n : ℕ). t || notHigher κ n (logCount κ (cons m s) (m .link))) e (none-next l e q) ∙ none-higher κ h (cons m s)) (logLinks s)
 
   kept-next : keep (λ (e : ℕ × ℕ). hasMark (e .1) || eqb (e .0) (logBest κ (cons m s))) among ≡ recordOf κ (cons m s) .links
   unfolding logLinks isHeld
@@ -163,11 +158,15 @@ module _ (κ : Config) (h : allowed κ ≡ true) (m : Ogm) (s : Log) where
       (keep-same _ (isHeld κ (cons m s)) (λ l. ap (λ (t : Bool). t || eqb l (logBest κ (cons m s))) (marks-some κ (cons m s) l)) (putKey (m .link) (heldLinks κ s))
       ∙ keep-putKey (isHeld κ (cons m s)) (isHeld κ s) (m .link) held-next (logLinks s))
 
-  -- the record with best b and links ls
+  -- the record before, with the window moved
+  abbrev moved-up : TableRecord
+  moved-up = moveTo κ c (recordOf κ s)
+
+  -- the record after, with best b and links ls
   abbrev with : ℕ → List (ℕ × ℕ) → TableRecord
   with b ls = record { current = c; time = m .time; lastTtl = m .ttl; best = b; links = ls }
 
-  settle-next : settle κ m c (logBest κ s) (marksOf κ (cons m s) (m .link)) among ≡ recordOf κ (cons m s)
+  settle-next : settle κ m (marksOf κ (cons m s) (m .link)) (withLinks among moved-up) ≡ recordOf κ (cons m s)
   unfolding logBest
   settle-next =
       ap (λ (t : Bool). with (cond t (m .link) (logBest κ s)) (keep (λ (e : ℕ × ℕ). hasMark (e .1) || eqb (e .0) (cond t (m .link) (logBest κ s))) among)) highest-next
@@ -176,9 +175,8 @@ module _ (κ : Config) (h : allowed κ ≡ true) (m : Ogm) (s : Log) where
   pub count-next : nextRecord κ m (recordOf κ s) ≡ recordOf κ (cons m s)
   unfolding nextRecord current advance
   count-next =
-      let ls = mapValues up (recordOf κ s .links) in
-      ap (λ v. settle κ m c (logBest κ s) v (put (m .link) v ls)) (ap (λ v. mark v (distance c (sequenceOf m))) word-before ∙ marks-own)
-      ∙ ap (settle κ m c (logBest κ s) (marksOf κ (cons m s) (m .link))) links-next
+      ap (λ v. settle κ m v (withLinks (put (m .link) v (moved-up .links)) moved-up)) (ap (λ v. mark v (distance c (sequenceOf m))) word-before ∙ marks-own)
+      ∙ ap (λ (ls : List (ℕ × ℕ)). settle κ m (marksOf κ (cons m s) (m .link)) (withLinks ls moved-up)) links-next
       ∙ settle-next
 
 -- ---- the first OGM

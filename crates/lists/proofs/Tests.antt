@@ -5,7 +5,7 @@ use mathlib.Core.Bool.{Bool, true, false, cond, _&&_, _||_, true≢false}
 use mathlib.Core.Option.{Option, none, some, Option·map}
 use mathlib.Core.List.{List, [], _∷_}
 use lib.Dec.{ltb, eqb}
-use lib.ListN.{getD}
+use lib.ListN.{getD, set}
 use native.Mathlib.Omega.{arith}
 use borrow.Author.Tests.{ltb-true, ne-eqb}
 use Rattle.lists.specs.Lists.{maybe, and, all}
@@ -69,6 +69,12 @@ pub data Each : List Bool → Type 0 where
 pub and-each : {ts : List Bool} → Each ts → and ts ≡ true
 and-each end = refl
 and-each (also p h) = both p (and-each h)
+
+-- another test in place k
+pub and-set : (ts : List Bool) (k : ℕ) (t : Bool) → and ts ≡ true → t ≡ true → and (set ts k t) ≡ true
+and-set [] k t h p = refl
+and-set (x ∷ ts) zero t h p = both p (and-right x (and ts) h)
+and-set (x ∷ ts) (suc k) t h p = both (and-left x (and ts) h) (and-set ts k t (and-right x (and ts) h) p)
 
 pub all-at : {A : Type 0} (p : A → Bool) (d : A) → p d ≡ true → (xs : List A) → all p xs ≡ true → (k : ℕ) → p (getD xs k d) ≡ true
 all-at p d e [] h k = e

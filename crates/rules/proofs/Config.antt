@@ -10,7 +10,7 @@ use Rattle.lists.specs.Lists.{and, all}
 use Rattle.lists.proofs.Tests.{and-left, and-right, both, and-at, all-at}
 use Rattle.window.specs.Window.{numbers}
 use Rattle.rules.specs.declared.Settings.{Settings}
-use Rattle.rules.specs.Settings.{versionMost, windowMost, timeoutMost, purgeMost, capacityMost, interfaceMost, within, differ, ownAddresses, MakeArgs, Config, configOf, interfaceAt, interfaceTests, settingsTests, settingsOk, configTests, allowed, cellsNeeded, makeTests, makeAllowed}
+use Rattle.rules.specs.Settings.{addresses, versionMost, windowMost, timeoutMost, purgeMost, capacityMost, interfaceMost, within, differ, ownAddresses, MakeArgs, Config, configOf, interfaceAt, interfaceTests, settingsTests, settingsOk, configTests, allowed, cellsNeeded, makeTests, makeAllowed}
 
 -- what a capacity needs is within document 01's bound
 pub cells-most : (capacity : ℕ) → cellsNeeded capacity ≤ 1024 + 256 * capacity
@@ -105,8 +105,8 @@ module _ (κ : Config) (h : allowed κ ≡ true) where
   interface-at : (i k : ℕ) → getD (interfaceTests (interfaceAt κ i)) k true ≡ true
   interface-at i = and-at (interfaceTests (interfaceAt κ i)) (all-at (λ j. and (interfaceTests j)) (record { own = 0; broadcast = 0; first = 0 }) refl (κ .interfaces) each-allowed i)
 
-  pub own-lt : (i : ℕ) → interfaceAt κ i .own < 4294967296
-  own-lt i = ltb-true (interfaceAt κ i .own) 4294967296 (interface-at i 0)
+  pub own-lt : (i : ℕ) → interfaceAt κ i .own < addresses
+  own-lt i = ltb-true (interfaceAt κ i .own) addresses (interface-at i 0)
 
   pub first-lt : (i : ℕ) → interfaceAt κ i .first < numbers
   first-lt i = ltb-true (interfaceAt κ i .first) numbers (interface-at i 2)

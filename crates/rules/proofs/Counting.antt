@@ -10,7 +10,7 @@ use lib.Pow.{pow-pos}
 use native.Mathlib.Omega.{arith}
 use borrow.Author.Tests.{ltb-true, eqb-true, eqb-false, lt-ltb, eq-eqb}
 use Rattle.lists.specs.Lists.{maybe, and, keep, all}
-use Rattle.lists.specs.Keyed.{lookup, hasKey, put, mapValues}
+use Rattle.lists.specs.Keyed.{lookup, hasKey, put}
 use Rattle.lists.proofs.Tests.{by-test, or-right, and-at, end, also, and-each}
 use Rattle.lists.proofs.Lists.{all-meet, all-weaken, all-kept, all-own, all-map}
 use Rattle.lists.proofs.Keyed.{lookup-put-other, hasKey-put, hasKey-keep, hasKey-mapValues, lookup-all, all-put}
@@ -22,7 +22,7 @@ use Rattle.rules.specs.Settings.{Config, allowed, isAddress, isInUse}
 use Rattle.rules.specs.Calls.{neighbourOf, interfaceOf}
 use Rattle.rules.specs.declared.Ogm.{Ogm}
 use Rattle.rules.specs.Rules.{sequenceOf}
-use Rattle.rules.specs.Table.{TableRecord, marksAt, isHighest, settle, markOn, firstRecord, nextRecord}
+use Rattle.rules.specs.Table.{TableRecord, marksAt, isHighest, settle, withLinks, markOn, begun, moveTo, firstRecord, nextRecord}
 use Rattle.rules.specs.WellFormed.{linkTests}
 use Rattle.rules.proofs.Config.{window-low}
 
@@ -67,11 +67,14 @@ module _ (κ : Config) where
     pub best : hasKey b ls ≡ true
     pub each : all (λ l. and (linkTests κ b l)) ls ≡ true
 
-  settle-links : (m : Ogm) (c b v : ℕ) (ls : List (ℕ × ℕ)) → Rising ls → all fits ls ≡ true → hasKey (m .link) ls ≡ true → hasKey b ls ≡ true
-      → Links (settle κ m c b v ls .best) (settle κ m c b v ls .links)
-  settle-links m c b v ls r f k l =
-      by-test (λ t. Links t (keep (λ (e : ℕ × ℕ). hasMark (e .1) || eqb (e .0) t) ls)) (isHighest κ (m .link) v ls) (λ _. at (m .link) k) (λ _. at b l)
+  settle-links : (m : Ogm) (v : ℕ) (x : TableRecord) → Rising (x .links) → all fits (x .links) ≡ true → hasKey (m .link) (x .links) ≡ true → hasKey (x .best) (x .links) ≡ true
+      → Links (settle κ m v x .best) (settle κ m v x .links)
+  settle-links m v x r f k l =
+      by-test (λ t. Links t (keep (λ (e : ℕ × ℕ). hasMark (e .1) || eqb (e .0) t) ls)) (isHighest κ (m .link) v ls) (λ _. at (m .link) k) (λ _. at (x .best) l)
     where
+      ls : List (ℕ × ℕ)
+      ls = x .links
+
       at : (t : ℕ) → hasKey t ls ≡ true → Links t (keep (λ (e : ℕ × ℕ). hasMark (e .1) || eqb (e .0) t) ls)
       at t h =
           let p : ℕ × ℕ → Bool = λ e. hasMark (e .1) || eqb (e .0) t in
@@ -90,14 +93,21 @@ module _ (κ : Config) where
 
   -- the message's link is on an interface in use
   module _ (hκ : allowed κ ≡ true) (m : Ogm) (ha : isAddress (neighbourOf (m .link)) ≡ true) (hi : isInUse κ (interfaceOf (m .link)) ≡ true) where
-    mark-links : (c b : ℕ) (ls : List (ℕ × ℕ)) → distance c (sequenceOf m) < κ .settings .window → Rising ls → all fits ls ≡ true
-        → (hasKey b ls ≡ true) ⊎ (b ≡ m .link) → Links (markOn κ m c b ls .best) (markOn κ m c b ls .links)
-    mark-links c b ls hc r f k =
-        let v = mark (marksAt ls (m .link)) (distance c (sequenceOf m)) in
-        settle-links m c b v (put (m .link) v ls) (rising-put (m .link) v ls r)
-        (all-put fits (m .link) v ls (and-each {ts = fitTests (m .link, v)} (also ha (also hi (also (lt-ltb v (2 ^ κ .settings .window) (laws (κ .settings .window) .mark-below (marksAt ls (m .link)) (distance c (sequenceOf m)) (marks-lt ls (m .link) f) hc)) end)))) f)
+    mark-links : (x : TableRecord) → distance (x .current) (sequenceOf m) < κ .settings .window → Rising (x .links) → all fits (x .links) ≡ true
+        → (hasKey (x .best) (x .links) ≡ true) ⊎ (x .best ≡ m .link) → Links (markOn κ m x .best) (markOn κ m x .links)
+    mark-links x hc r f k =
+        let k₀ = distance (x .current) (sequenceOf m) in
+        let v = mark (marksAt ls (m .link)) k₀ in
+        settle-links m v (withLinks (put (m .link) v ls) x) (rising-put (m .link) v ls r)
+        (all-put fits (m .link) v ls (and-each {ts = fitTests (m .link, v)} (also ha (also hi (also (lt-ltb v (2 ^ κ .settings .window) (laws (κ .settings .window) .mark-below (marksAt ls (m .link)) k₀ (marks-lt ls (m .link) f) hc)) end)))) f)
         (hasKey-put (m .link) v ls) (among v (eqb b (m .link)) refl k)
       where
+        ls : List (ℕ × ℕ)
+        ls = x .links
+
+        b : ℕ
+        b = x .best
+
         among : (v : ℕ) (t : Bool) → eqb b (m .link) ≡ t → (hasKey b ls ≡ true) ⊎ (b ≡ m .link) → hasKey b (put (m .link) v ls) ≡ true
         among v true e x = ap (λ n. hasKey n (put (m .link) v ls)) (eqb-true b (m .link) e) ∙ hasKey-put (m .link) v ls
         among v false e (inl x) = ap (λ (o : Option ℕ). maybe o false (λ n. true)) (lookup-put-other b (m .link) v ls e) ∙ x
@@ -105,7 +115,7 @@ module _ (κ : Config) where
 
     pub first-links : Links (firstRecord κ m .best) (firstRecord κ m .links)
     unfolding firstRecord
-    first-links = mark-links (sequenceOf m) (m .link) [] (let x = window-low κ hκ in omega (arith, distance-self (sequenceOf m))) tt refl (inr refl)
+    first-links = mark-links (begun m) (let x = window-low κ hκ in omega (arith, distance-self (sequenceOf m))) tt refl (inr refl)
 
     pub next-links : (r : TableRecord) → Links (r .best) (r .links) → Links (nextRecord κ m r .best) (nextRecord κ m r .links)
     unfolding nextRecord
@@ -113,7 +123,7 @@ module _ (κ : Config) where
         let W = κ .settings .window in
         let c = advance W (r .current) (sequenceOf m) in
         let d = shift W (distance c (r .current)) in
-        mark-links c (r .best) (mapValues d (r .links)) (advance-inside W (r .current) (sequenceOf m) (window-low κ hκ)) (rising-mapValues d (r .links) (h .rise))
+        mark-links (moveTo κ c r) (advance-inside W (r .current) (sequenceOf m) (window-low κ hκ)) (rising-mapValues d (r .links) (h .rise))
         (all-map (λ (e : ℕ × ℕ). (e .0, d (e .1))) fits (r .links)
         ∙ all-weaken (λ e. and (linkTests κ (r .best) e)) (λ e. fits (e .0, d (e .1))) (λ e g. refit (e .0) (e .1) (d (e .1)) (link-fits (r .best) e g) (laws W .shift-below (distance c (r .current)) (e .1))) (r .links) (h .each))
         (inl (hasKey-mapValues d (r .best) (r .links) ∙ h .best))

@@ -6,5 +6,6 @@ pub mod Links
 pub mod Sends
 pub mod Exactly
 pub mod Counting
+pub mod Parts
 pub mod WellFormed
 pub mod Promises

@@ -21,7 +21,7 @@ use Rattle.wire.specs.declared.Header.{Header}
 use Rattle.wire.specs.Layout.{ttlAt, originatorAt}
 use Rattle.wire.specs.Packet.{octet, read4, header}
 use Rattle.wire.specs.Check.{firstOf}
-use Rattle.rules.specs.Settings.{Config, configOf, allowed, makeAllowed, neighbourMost, linkMost, interfaceMost, isOctet, isAddress, isNumber, isTime, isInUse, isOwn}
+use Rattle.rules.specs.Settings.{Config, configOf, allowed, makeAllowed, neighbourMost, linkMost, interfaceMost, octets, addresses, isOctet, isAddress, isNumber, isTime, isInUse, isOwn}
 use Rattle.rules.specs.Calls.{neighbourOf, interfaceOf, ReceiveArgs, OwnArgs, Call, make, receive, own, sweep, ask, list}
 use Rattle.rules.specs.declared.Ogm.{Ogm}
 use Rattle.rules.specs.Rules.{sequenceOf, Sends, hasSent, lastSent, nextNumber, sendOn, linkBy, message, echoTests, ownPacket, fresh, isExpired, answerBest, fillRows, send, purge, step}
@@ -33,6 +33,7 @@ use Rattle.rules.proofs.Config.{make-allowed, timeout-low, interfaces-h
 use Rattle.rules.proofs.Links.{neighbour-of, interface-of}
 use Rattle.rules.proofs.Sends.{Fit, next-lt, last-lt, last-other}
 use Rattle.rules.proofs.Counting.{sequence-lt, advance-lt, Links, first-links, next-links}
+use Rattle.rules.proofs.Parts.{row-parts, row-whole, record-parts, record-whole, record-later}
 use Rattle.rules.proofs.Exactly.{step-keeps}
 
 -- ---- a well-formed table, part by part
@@ -92,12 +93,7 @@ module _ (s : TableState) (w : Wf s) where
   records-later t l = held-weaken (λ e. and (recordTests (s .config) (s .time) e)) (λ e. and (recordTests (s .config) t e)) (s .config .settings .capacity) (s .records) later (w .records)
     where
       later : (e : ℕ × TableRecord) → and (recordTests (s .config) (s .time) e) ≡ true → and (recordTests (s .config) t e) ≡ true
-      later e h =
-          let at = and-at (recordTests (s .config) (s .time) e) h in
-          and-each {ts = recordTests (s .config) t e}
-          (also (at 0) (also (at 1) (also (at 2)
-          (also (le-leb (e .1 .time) t (let x = leb-true (e .1 .time) (s .time) (at 3) in omega arith))
-          (also (at 4) (also (at 5) (also (at 6) (also (at 7) (also (at 8) end)))))))))
+      later e h = record-whole (s .config) t e (record-later (s .config) (s .time) e t l (record-parts (s .config) (s .time) e h))
 
   -- a sweep
   purged : (t : ℕ) → isTime t ≡ true → s .time ≤ t → Wf (purge table s t .state)
@@ -129,16 +125,16 @@ module _ (s : TableState) (w : Wf s) where
         with-distance : hasSent ns (interfaceOf (e .0)) ≡ true → ltb (rowDistance (s .config) ns e) (s .config .settings .timeout) ≡ true
             → and (rowTests (s .config) ns e) ≡ true
         with-distance g d =
-            let at = and-at (rowTests (s .config) (s .sends) e) h in
-            and-each {ts = rowTests (s .config) ns e} (also (at 0) (also (at 1) (also g (also (at 3) (also d end)))))
+            let p = row-parts (s .config) (s .sends) e h in
+            row-whole (s .config) ns e (record { neighbour = p .neighbour; used = p .used; sent = g; number = p .number; near = d })
 
         go : (t : Bool) → eqb (interfaceOf (e .0)) (a .interface) ≡ t
             → (not t || ltb (rowDistance (s .config) ns e) (s .config .settings .timeout)) ≡ true → and (rowTests (s .config) ns e) ≡ true
         go true d g = with-distance (ap (hasSent ns) (eqb-true (interfaceOf (e .0)) (a .interface) d) ∙ hasKey-put (a .interface) (nextNumber (s .config) (s .sends) (a .interface)) (s .sends)) g
         go false d g =
-            let at = and-at (rowTests (s .config) (s .sends) e) h in
-            with-distance (ap (λ (x : Option ℕ). maybe x false (λ n. true)) (lookup-put-other (interfaceOf (e .0)) (a .interface) (nextNumber (s .config) (s .sends) (a .interface)) (s .sends) d) ∙ at 2)
-            (ap (λ n. ltb (distance n (e .1)) (s .config .settings .timeout)) (last-other (s .config) (s .sends) (a .interface) (interfaceOf (e .0)) d) ∙ at 4)
+            let p = row-parts (s .config) (s .sends) e h in
+            with-distance (ap (λ (x : Option ℕ). maybe x false (λ n. true)) (lookup-put-other (interfaceOf (e .0)) (a .interface) (nextNumber (s .config) (s .sends) (a .interface)) (s .sends) d) ∙ p .sent)
+            (ap (λ n. ltb (distance n (e .1)) (s .config .settings .timeout)) (last-other (s .config) (s .sends) (a .interface) (interfaceOf (e .0)) d) ∙ p .near)
 
     sent : (p : List ℕ) → isTime (a .time) ≡ true → s .time ≤ a .time → Wf (send table s a p .state)
     unfolding send dropOld
@@ -221,17 +217,17 @@ module _ (cells : ℕ) (s : TableState) (w : Wf s) (r : ReceiveArgs) (t : typed 
   interface : isInUse κ (interfaceOf (linkBy r)) ≡ true
   interface = ap (isInUse κ) same-interface ∙ in-use
 
-  octet-lt : (k : ℕ) → octet (r .packet) k < 256
+  octet-lt : (k : ℕ) → octet (r .packet) k < octets
   octet-lt k =
-      ltb-true (octet (r .packet) k) 256 (all-at isOctet 0 refl (r .packet) (and-at (receiveTypes r) t 1) k)
+      ltb-true (octet (r .packet) k) octets (all-at isOctet 0 refl (r .packet) (and-at (receiveTypes r) t 1) k)
 
   originator : isAddress (h .originator) ≡ true
   unfolding header
-  originator = lt-ltb (read4 (r .packet) originatorAt) 4294967296 (omega (arith, octet-lt 8, octet-lt 9, octet-lt 10, octet-lt 11))
+  originator = lt-ltb (read4 (r .packet) originatorAt) addresses (omega (arith, octet-lt 8, octet-lt 9, octet-lt 10, octet-lt 11))
 
   ttl : isOctet (h .ttl) ≡ true
   unfolding header
-  ttl = lt-ltb (octet (r .packet) ttlAt) 256 (octet-lt ttlAt)
+  ttl = lt-ltb (octet (r .packet) ttlAt) octets (octet-lt ttlAt)
 
   -- an echo's row
   echoed : wouldEcho table s r h q ≡ true → Held (λ e. and (rowTests κ (s .sends) e)) neighbourMost (recordEcho κ (s .sends) (linkBy r) (s .rows))
@@ -242,12 +238,14 @@ module _ (cells : ℕ) (s : TableState) (w : Wf s) (r : ReceiveArgs) (t : typed 
       let fit : Fit (s .sends) = all-weaken (λ x. and (sendTests κ x)) (λ x. isNumber (x .1)) (λ x y. and-at (sendTests κ x) y 1) (s .sends) (w .sends) in
       let z : distance k k < κ .settings .timeout = (let x = timeout-low κ (w .allowed) in omega (arith, distance-self k)) in
       held-put (λ x. and (rowTests κ (s .sends) x)) neighbourMost l k (s .rows) (w .rows)
-      (and-each {ts = rowTests κ (s .sends) (l, k)}
-      (also sender
-      (also interface
-      (also (ap (hasSent (s .sends)) same-interface ∙ has-sent)
-      (also (lt-ltb k numbers (last-lt κ (s .sends) fit (interfaceOf l)))
-      (also (lt-ltb (distance k k) (κ .settings .timeout) z) end))))))
+      (row-whole κ (s .sends) (l, k)
+      (record {
+        neighbour = sender;
+        used = interface;
+        sent = ap (hasSent (s .sends)) same-interface ∙ has-sent;
+        number = lt-ltb k numbers (last-lt κ (s .sends) fit (interfaceOf l));
+        near = lt-ltb (distance k k) (κ .settings .timeout) z;
+      }))
       (row-room e)
     where
       has-sent : hasSent (s .sends) (r .interface) ≡ true
@@ -259,9 +257,9 @@ module _ (cells : ℕ) (s : TableState) (w : Wf s) (r : ReceiveArgs) (t : typed 
   unfolding firstRecord nextRecord
   counted-parts none e = (sequence-lt m, first-links κ (w .allowed) m sender interface)
   counted-parts (some a) e =
-      let at = and-at (recordTests κ (s .time) (h .originator, a)) (lookup-all (λ x. and (recordTests κ (s .time) x)) (h .originator) a (s .records) (w .records .each) e) in (
-        advance-lt (κ .settings .window) (a .current) (sequenceOf m) (ltb-true (a .current) numbers (at 2)) (sequence-lt m),
-        next-links κ (w .allowed) m sender interface a (record { rise = rising-in (a .links) (at 5); best = at 7; each = at 8 }),
+      let p = record-parts κ (s .time) (h .originator, a) (lookup-all (λ x. and (recordTests κ (s .time) x)) (h .originator) a (s .records) (w .records .each) e) in (
+        advance-lt (κ .settings .window) (a .current) (sequenceOf m) (ltb-true (a .current) numbers (p .current)) (sequence-lt m),
+        next-links κ (w .allowed) m sender interface a (record { rise = rising-in (a .links) (p .rise); best = p .best; each = p .each }),
       )
 
   stamped : (x : Option TableRecord) → (maybe x (firstRecord κ m) (nextRecord κ m) .time ≡ r .time) × (maybe x (firstRecord κ m) (nextRecord κ m) .lastTtl ≡ h .ttl)
@@ -278,16 +276,18 @@ module _ (cells : ℕ) (s : TableState) (w : Wf s) (r : ReceiveArgs) (t : typed 
       let b = keep (λ (l : ℕ × ℕ). eqb (a .best) (l .0)) (a .links) in
       let some-link : 1 ≤ length (a .links) = omega (arith, hasKey-length (a .best) (a .links) (x .1 .best), keep-length (λ (l : ℕ × ℕ). eqb (a .best) (l .0)) (a .links)) in
       held-put (λ z. and (recordTests κ (r .time) z)) (κ .settings .capacity) (h .originator) a (s .records) (records-later s w (r .time) not-before)
-      (and-each {ts = recordTests κ (r .time) (h .originator, a)}
-      (also originator
-      (also not-own
-      (also (lt-ltb (a .current) numbers (x .0))
-      (also (le-leb (a .time) (r .time) (omega (arith, y .0)))
-      (also (ap isOctet (y .1) ∙ ttl)
-      (also (rising-out (a .links) (x .1 .rise))
-      (also (both (le-leb 1 (length (a .links)) some-link) (le-leb (length (a .links)) linkMost (links-most e)))
-      (also (x .1 .best)
-      (also (x .1 .each) end))))))))))
+      (record-whole κ (r .time) (h .originator, a)
+      (record {
+        address = originator;
+        foreign = not-own;
+        current = lt-ltb (a .current) numbers (x .0);
+        time = le-leb (a .time) (r .time) (omega (arith, y .0));
+        ttl = ap isOctet (y .1) ∙ ttl;
+        rise = rising-out (a .links) (x .1 .rise);
+        few = both (le-leb 1 (length (a .links)) some-link) (le-leb (length (a .links)) linkMost (links-most e));
+        best = x .1 .best;
+        each = x .1 .each;
+      }))
       (record-room e)
     where
       not-own : not (isOwn κ (h .originator)) ≡ true

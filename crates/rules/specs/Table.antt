@@ -29,33 +29,49 @@ marksAt ls l = maybe (lookup l ls) 0 (λ v. v)
 abbrev pub isHighest : Config → (l v : ℕ) → List (ℕ × ℕ) → Bool
 isHighest κ l v ls = all (λ (e : ℕ × ℕ). eqb (e .0) l || notHigher κ (count (e .1)) (count v)) ls
 
--- the record with current c and the links ls, this link with its word v among them: this link is best if no other then has a higher count,
--- otherwise best stays at b, even with count 0; a link with no mark that isn't best gives up its place
-abbrev pub settle : Config → Ogm → (c b v : ℕ) → List (ℕ × ℕ) → TableRecord
-settle κ m c b v ls =
-    let t = cond (isHighest κ (m .link) v ls) (m .link) b in
+-- the record x, in which this link has the word v, once the message is counted: this link is best if no other then has a higher count,
+-- otherwise best stays, even with count 0; a link with no mark that isn't best gives up its place
+abbrev pub settle : Config → Ogm → (v : ℕ) → TableRecord → TableRecord
+settle κ m v x =
+    let t = cond (isHighest κ (m .link) v (x .links)) (m .link) (x .best) in
     record {
-      current = c;
+      current = x .current;
       time = m .time;
       lastTtl = m .ttl;
       best = t;
-      links = keep (λ (e : ℕ × ℕ). hasMark (e .1) || eqb (e .0) t) ls;
+      links = keep (λ (e : ℕ × ℕ). hasMark (e .1) || eqb (e .0) t) (x .links);
     }
 
+abbrev pub withLinks : List (ℕ × ℕ) → TableRecord → TableRecord
+withLinks ls x = record { current = x .current; time = x .time; lastTtl = x .lastTtl; best = x .best; links = ls }
+
 -- the number is marked on its link
-abbrev pub markOn : Config → Ogm → (c b : ℕ) → List (ℕ × ℕ) → TableRecord
-markOn κ m c b ls =
-    let v = mark (marksAt ls (m .link)) (distance c (sequenceOf m)) in
-    settle κ m c b v (put (m .link) v ls)
+abbrev pub markOn : Config → Ogm → TableRecord → TableRecord
+markOn κ m x =
+    let v = mark (marksAt (x .links) (m .link)) (distance (x .current) (sequenceOf m)) in
+    settle κ m v (withLinks (put (m .link) v (x .links)) x)
+
+-- a record before its first count: the first number is current, and its link best
+abbrev pub begun : Ogm → TableRecord
+begun m = record { current = sequenceOf m; time = m .time; lastTtl = m .ttl; best = m .link; links = [] }
 
 unfoldable pub firstRecord : Config → Ogm → TableRecord
-firstRecord κ m = markOn κ m (sequenceOf m) (m .link) []
+firstRecord κ m = markOn κ m (begun m)
 
--- a new number becomes current, and numbers no longer inside are forgotten on every link
+-- c becomes current, and numbers no longer inside are forgotten on every link
+abbrev pub moveTo : Config → (c : ℕ) → TableRecord → TableRecord
+moveTo κ c x =
+    record {
+      current = c;
+      time = x .time;
+      lastTtl = x .lastTtl;
+      best = x .best;
+      links = mapValues (shift (κ .settings .window) (distance c (x .current))) (x .links);
+    }
+
+-- a new number moves the window
 unfoldable pub nextRecord : Config → Ogm → TableRecord → TableRecord
-nextRecord κ m r =
-    let c = advance (κ .settings .window) (r .current) (sequenceOf m) in
-    markOn κ m c (r .best) (mapValues (shift (κ .settings .window) (distance c (r .current))) (r .links))
+nextRecord κ m x = markOn κ m (moveTo κ (advance (κ .settings .window) (x .current) (sequenceOf m)) x)
 
 unfoldable pub isMarked : Config → TableRecord → (link number : ℕ) → Bool
 isMarked κ r l n = inside (κ .settings .window) (r .current) n && marked (marksAt (r .links) l) (r .current) n

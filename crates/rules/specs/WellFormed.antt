@@ -36,19 +36,23 @@ linkTests κ b e =
     ∷ (hasMark (e .1) || eqb (e .0) b)
     ∷ []
 
--- an originator is no own address; its time is not after the table's; it has 1 to 8 links, rising strictly by the pair; exactly one is best
-abbrev pub recordTests : Config → (now : ℕ) → ℕ × TableRecord → List Bool
-recordTests κ now e =
+-- an originator has 1 to 8 links and is no own address; its time is not after the table's
+abbrev pub fieldTests : Config → (now : ℕ) → ℕ × TableRecord → List Bool
+fieldTests κ now e =
     isAddress (e .0)
+    ∷ within 1 linkMost (length (e .1 .links))
     ∷ not (isOwn κ (e .0))
     ∷ isNumber (e .1 .current)
     ∷ leb (e .1 .time) now
     ∷ isOctet (e .1 .lastTtl)
-    ∷ rising (e .1 .links)
-    ∷ within 1 linkMost (length (e .1 .links))
-    ∷ hasKey (e .1 .best) (e .1 .links)
-    ∷ all (λ l. and (linkTests κ (e .1 .best) l)) (e .1 .links)
     ∷ []
+
+-- its links rise strictly by the pair; exactly one is best
+abbrev pub linksTests : Config → (best : ℕ) → List (ℕ × ℕ) → List Bool
+linksTests κ b ls = rising ls ∷ all (λ l. and (linkTests κ b l)) ls ∷ hasKey b ls ∷ []
+
+abbrev pub recordTests : Config → (now : ℕ) → ℕ × TableRecord → List Bool
+recordTests κ now e = and (fieldTests κ now e) ∷ and (linksTests κ (e .1 .best) (e .1 .links)) ∷ []
 
 -- neighbour rows rise strictly by address, then interface, originators strictly by address; no more are held than the limits allow
 abbrev pub tableTests : TableState → List Bool

@@ -23,22 +23,22 @@ use Rattle.table_record.proofs.Rows.{record-valid, record-unused}
 use Rattle.table_layout.specs.Layout.{capacityAt, usedAt, timeAt, rowsAt, recordsAt, interfacePart, neighbourPart, recordPart}
 use Rattle.table_layout.specs.Cells.{interfacesIn, configIn, sendsIn, rowsIn, recordsIn, decode, unusedRecords, wellFormed}
 use Rattle.table_settings.specs.Check.{headOk, interfaceRowOk, interfacesOk}
-use Rattle.table_settings.proofs.Checks.{row-tests, head-sized, each-interface, free-interfaces, configured-by, sends-by}
+use Rattle.table_settings.proofs.Checks.{row-tests, head-sized, each-interface, unused-interfaces, configured-by, sends-by}
 use Rattle.table_check.specs.Check.{neighboursOk, recordsOk}
 use Rattle.table_layout.specs.Facts.{Sized}
 use Rattle.table_layout.proofs.Interfaces.{sends-rise}
-use Rattle.table_layout.proofs.Encoding.{clause, holds, records-ok}
+use Rattle.table_layout.proofs.Encoding.{free-rows, free-records, holds, records-ok}
 
 -- ---- well-formed cells pass every part of the check
 
 module _ (c : List ℕ) (h : wellFormed c ≡ true) where
   pub neighbours-from : neighboursOk c ≡ true
   unfolding neighboursOk decode
-  neighbours-from = both (both (rising-out (rowsIn c) (holds c h .rows .rise)) (holds c h .rows .each)) (clause c h 4)
+  neighbours-from = both (both (rising-out (rowsIn c) (holds c h .rows .rise)) (holds c h .rows .each)) (free-rows c h)
 
   pub records-from : recordsOk c ≡ true
   unfolding recordsOk decode
-  records-from = both (both (rising-out (recordsIn c) (holds c h .records .rise)) (records-ok c h)) (clause c h 6)
+  records-from = both (both (rising-out (recordsIn c) (holds c h .records .rise)) (records-ok c h)) (free-records c h)
 
 -- ---- and cells that pass every part are well-formed
 
@@ -85,7 +85,7 @@ module _ (c : List ℕ) (time : getD c timeAt 0 < 18446744073709551616) (hd : he
       both (eq-eqb (length c) (tableHead + getD c capacityAt 0 * recordCells) (sized .size))
       (both (whole (decode c) valid-by)
       (both (all-weaken interfaceRowOk _ (λ row k. row-tests row k .1) rows (each-interface c hd hi))
-      (both (free-interfaces c hd hi)
+      (both (unused-interfaces c hd hi)
       (both (and-right (rising (rowsIn c) && all (λ e. and (rowTests (configIn c) (sendsIn c) e)) (rowsIn c)) _ hn)
       (both (all-weaken (recordOk (configIn c) (getD c timeAt 0)) _ (record-unused (configIn c) (getD c timeAt 0)) held each-record)
       (both (and-right (rising (recordsIn c) && all (recordOk (configIn c) (getD c timeAt 0)) held) _ hr) refl))))))

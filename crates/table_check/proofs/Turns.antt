@@ -14,7 +14,6 @@ use Rattle.lists.specs.Lists.{maybe, and, all}
 use Rattle.lists.specs.Keyed.{lookup, rising}
 use Rattle.cells.specs.Area.{rowsOf, allZero, scan}
 use Rattle.cells.specs.Pairs.{pairOf}
-use Rattle.lists.proofs.Tests.{and-at}
 use Rattle.lists.proofs.Lists.{all-map, map-map}
 use Rattle.cells.proofs.Keys.{row-key, scan-next, scan-stop, scan-end, scan-is}
 use Rattle.cells.proofs.Trips.{rows-take, rows-at}
@@ -22,9 +21,10 @@ use Rattle.cells.proofs.Pairs.{pair-at}
 use Rattle.cells.proofs.Lent.{drop-take, part-is}
 use Rattle.window.specs.Window.{numbers, distance}
 use Rattle.rules.specs.Settings.{Config, isAddress, isNumber, interfaceAt, interfaceMost, interfaceCells, neighbourCells, neighbourMost, neighbourAreaCells, recordCells}
-use Rattle.rules.specs.Calls.{neighbourOf, interfaceOf}
+use Rattle.rules.specs.Calls.{pairs, neighbourOf, interfaceOf}
 use Rattle.rules.specs.Rules.{lastSent}
 use Rattle.rules.specs.WellFormed.{rowTests}
+use Rattle.rules.proofs.Parts.{row-parts}
 use Rattle.table_record.specs.Record.{decodeRecord, recordOk, addressAt}
 use Rattle.table_record.proofs.Rows.{record-key}
 use Rattle.table_record.proofs.Rows.{small-pair}
@@ -72,14 +72,14 @@ module _ (c : List ℕ) (pair number : ℕ) where
   after-sent d hn ed false = refl
 
   pub neighbour-tests : (d : ℕ) → number < numbers → d ≡ distance (getD c (place + lastAt) 0) number
-      → ltb pair 17179869184 && (ltb (pair % interfaceMost) (getD c usedAt 0) && (eqb (getD c (place + sentAt) 0) 1 && ltb d (getD c timeoutAt 0))) ≡ and (rowTests (configIn c) (sendsIn c) (pair, number))
+      → ltb pair pairs && (ltb (pair % interfaceMost) (getD c usedAt 0) && (eqb (getD c (place + sentAt) 0) 1 && ltb d (getD c timeoutAt 0))) ≡ and (rowTests (configIn c) (sendsIn c) (pair, number))
   unfolding interfaceOf lastSent
   neighbour-tests d hn ed =
       go (ltb (pair % interfaceMost) (getD c usedAt 0)) refl
       ∙ ap (λ (n : ℕ). isAddress (neighbourOf pair) && (ltb (pair % interfaceMost) n && after-use (lookup (pair % interfaceMost) (sendsIn c)))) (sym (used-length c))
     where
       go : (u : Bool) → ltb (pair % interfaceMost) (getD c usedAt 0) ≡ u
-          → ltb pair 17179869184 && (u && (eqb (getD c (place + sentAt) 0) 1 && ltb d (getD c timeoutAt 0))) ≡ isAddress (neighbourOf pair) && (u && after-use (lookup (pair % interfaceMost) (sendsIn c)))
+          → ltb pair pairs && (u && (eqb (getD c (place + sentAt) 0) 1 && ltb d (getD c timeoutAt 0))) ≡ isAddress (neighbourOf pair) && (u && after-use (lookup (pair % interfaceMost) (sendsIn c)))
       go false eu = ap (λ (b : Bool). b && false) (small-pair pair)
       go true eu =
           let e : eqb (getD c (place + sentAt) 0) 1 && ltb d (getD c timeoutAt 0) ≡ after-use (lookup (pair % interfaceMost) (sendsIn c)) =
@@ -108,8 +108,8 @@ pub neighbours-end : (c : List ℕ) (low at left : ℕ) → left ≤ 0 → neigh
 neighbours-end c low at left h = scan-end (neighbourRow c) neighbourCells low c at left (omega arith) h
 
 -- a pair that passes is small
-pub neighbour-small : (c : List ℕ) (pair number : ℕ) → and (rowTests (configIn c) (sendsIn c) (pair, number)) ≡ true → pair < 17179869184
-neighbour-small c pair number h = ltb-true pair 17179869184 (small-pair pair ∙ and-at (rowTests (configIn c) (sendsIn c) (pair, number)) h 0)
+pub neighbour-small : (c : List ℕ) (pair number : ℕ) → and (rowTests (configIn c) (sendsIn c) (pair, number)) ≡ true → pair < pairs
+neighbour-small c pair number h = ltb-true pair pairs (small-pair pair ∙ row-parts (configIn c) (sendsIn c) (pair, number) h .neighbour)
 
 pub neighbours-done : (c : List ℕ) (t z : Bool) → getD c rowsAt 0 ≤ neighbourMost → t ≡ neighbours-from c 0 neighboursFrom (getD c rowsAt 0) → (t ≡ true → z ≡ allZero (unusedRows c)) → t && z ≡ neighboursOk c
 unfolding neighboursOk

@@ -26,7 +26,7 @@ use Rattle.table_record.specs.Record.{encodeRecord, decodeRecord, unusedLinks, 
 use Rattle.table_record.proofs.Rows.{length-record, valid-back, record-passes, record-unused, record-trip}
 use Rattle.table_layout.specs.Layout.{interfacePart, neighbourPart, recordPart, usedAt, rowsAt, recordsAt, timeAt, capacityAt}
 use Rattle.table_layout.specs.Interfaces.{InterfaceRow, rowsWith, sendsOf, encodeInterface, decodeInterface, sentTests}
-use Rattle.table_layout.specs.Cells.{settingsRow, interfaceArea, recordArea, encode, settingsIn, interfacesIn, configIn, rowsIn, recordsIn, decode, cellTests, wellFormed}
+use Rattle.table_layout.specs.Cells.{settingsRow, interfaceArea, recordArea, encode, settingsIn, interfacesIn, configIn, rowsIn, recordsIn, decode, unusedInterfaces, unusedRows, unusedRecords, cellTests, wellFormed}
 use Rattle.table_layout.specs.Laws.{Laws}
 use Rattle.table_layout.proofs.Interfaces.{interface-wide, interface-back, interface-tests, interface-trip, interfaces-with, length-with, rows-back, sends-back}
 use Rattle.table_layout.proofs.Parts.{length-interfaces, length-neighbours, split, interfaces-lent, rows-lent, records-lent, length-encode}
@@ -99,10 +99,25 @@ pub used-length : (c : List ℕ) → length (map (λ (r : InterfaceRow). r .0) (
 used-length c = length-map (interfacesIn c) (λ (r : InterfaceRow). r .0) ∙ length-decoded decodeInterface interfaceCells (getD c usedAt 0) (interfacePart c)
 
 module _ (c : List ℕ) (h : wellFormed c ≡ true) where
-  -- each clause by its place
-  pub clause : (i : ℕ) → getD (cellTests c) i true ≡ true
+  -- each clause by its place, and by name
+  clause : (i : ℕ) → getD (cellTests c) i true ≡ true
   unfolding wellFormed
   clause i = and-at (cellTests c) h i
+
+  pub sent-rows : all (λ row. and (sentTests row)) (rowsOf interfaceCells (getD c usedAt 0) (interfacePart c)) ≡ true
+  sent-rows = clause 2
+
+  pub free-interfaces : allZero (unusedInterfaces c) ≡ true
+  free-interfaces = clause 3
+
+  pub free-rows : allZero (unusedRows c) ≡ true
+  free-rows = clause 4
+
+  pub free-links : all (λ row. allZero (unusedLinks row)) (rowsOf recordCells (getD c recordsAt 0) (recordPart c)) ≡ true
+  free-links = clause 5
+
+  pub free-records : allZero (unusedRecords c) ≡ true
+  free-records = clause 6
 
   pub cells-valid : R.wellFormed (decode c) ≡ true
   cells-valid = clause 1
@@ -135,23 +150,23 @@ module _ (c : List ℕ) (h : wellFormed c ≡ true) where
   records-ok =
       let rows = rowsOf recordCells (getD c recordsAt 0) (recordPart c) in
       let tests : ℕ × TableRecord → Bool = λ e. and (recordTests (configIn c) (getD c timeAt 0) e) in
-      all-meet (λ row. tests (decodeRecord row)) (λ row. allZero (unusedLinks row)) _ (λ row g z. both g z) rows (sym (all-map decodeRecord tests rows) ∙ holds .records .each) (clause 5)
+      all-meet (λ row. tests (decodeRecord row)) (λ row. allZero (unusedLinks row)) _ (λ row g z. both g z) rows (sym (all-map decodeRecord tests rows) ∙ holds .records .each) free-links
 
   interfaces-trip : interfaceArea (decode c) ≡ interfacePart c
   unfolding decode
   interfaces-trip =
       let n = getD c usedAt 0 in
       ap (area encodeInterface interfaceCells interfaceMost) (rows-back 0 (interfacesIn c))
-      ∙ area-trip encodeInterface decodeInterface interfaceCells (λ row. and (sentTests row)) interface-trip interfaceMost n (interfacePart c) (length-interfaces c big) used-few (clause 2) (clause 3)
+      ∙ area-trip encodeInterface decodeInterface interfaceCells (λ row. and (sentTests row)) interface-trip interfaceMost n (interfacePart c) (length-interfaces c big) used-few sent-rows free-interfaces
 
   neighbours-trip : pairArea neighbourMost (rowsIn c) ≡ neighbourPart c
-  neighbours-trip = pairs-trip neighbourMost (getD c rowsAt 0) (neighbourPart c) (length-neighbours c big) rows-few (clause 4)
+  neighbours-trip = pairs-trip neighbourMost (getD c rowsAt 0) (neighbourPart c) (length-neighbours c big) rows-few free-rows
 
   records-trip : recordArea (getD c capacityAt 0) (recordsIn c) ≡ recordPart c
   records-trip =
       let size : length (recordPart c) ≡ getD c capacityAt 0 * recordCells = let e = cells-size in length-drop tableHead c ∙ (omega arith) in
       area-trip encodeRecord decodeRecord recordCells (recordOk (configIn c) (getD c timeAt 0)) (λ row l k. record-trip (configIn c) (getD c timeAt 0) row k l) (getD c capacityAt 0) (getD c recordsAt 0) (recordPart c)
-      size records-few records-ok (clause 6)
+      size records-few records-ok free-records
 
   -- well-formed cells are the encoding of what they decode to
   pub encode-decode : encode (decode c) ≡ c

@@ -1,20 +1,18 @@
 -- A record written over its cells, or put in at its place: the cells are those of the table that holds it. Assumes nothing.
 use mathlib.Core.Path.{_≡_, refl, sym, ap, _∙_, subst}
 use mathlib.Core.Bool.{Bool, true, false, cond}
-use mathlib.Core.List.{List, [], _∷_, _++_, map, append-assoc, append-nil}
+use mathlib.Core.List.{List, [], _∷_, _++_, append-assoc, append-nil}
 use Prim.Native.Nat.{ℕ, _+_, _-_, _*_, _≤_, _<_}
 use native.Mathlib.Omega.{arith}
-use lib.ListN.{length, take, drop, set, getD, length-append, length-drop, length-set, length-map}
-use lib.Seq.{length-take-le}
+use lib.ListN.{length, take, drop, set, getD, length-append, length-set, length-map}
 use borrow.Rule.Slice.PartMut.{putMid, put-same}
 use Rattle.lists.specs.Keyed.{put}
-use Rattle.cells.specs.Area.{putIn, written, insertAt}
+use Rattle.cells.specs.Area.{putIn, insertAt}
 use Rattle.cells.specs.Pairs.{pairArea}
-use Rattle.cells.specs.Find.{IsAt}
 use Rattle.cells.proofs.Areas.{length-area, length-insert, take-more, more-back, write-row, put-row}
 use Rattle.cells.proofs.Lent.{part-is, part-length, tail-back}
 use Rattle.cells.proofs.Trips.{length-decoded}
-use Rattle.cells.proofs.Search.{belowKey, aboveKey, Among, among, apart, put-among, put-apart}
+use Rattle.cells.proofs.Search.{Among, among, apart, put-among, put-apart}
 use Rattle.rules.specs.Settings.{neighbourMost, recordCells}
 use Rattle.rules.specs.declared.Ogm.{Ogm}
 use Rattle.rules.specs.Table.{TableRecord, TableState, nextRecord}
@@ -31,7 +29,7 @@ use Rattle.table_changes.proofs.Sent.{run-back}
 use Rattle.rules.proofs.WellFormed.{Wf, parts}
 use Rattle.count_in_record.specs.declared.Heard.{Heard}
 use Rattle.count_in_record.specs.Counting.{isTaken, Answers, HeardIn}
-use Rattle.table_originators.specs.Originators.{heldBy, recordPlace, Stands, Missing, standingAt, countedAt, HeardAt}
+use Rattle.table_originators.specs.Originators.{recordPlace, Stands, Missing, standingAt, countedAt, HeardAt}
 
 abbrev Entry : Type 0
 Entry = ℕ × TableRecord
@@ -43,19 +41,6 @@ records-count c = length-decoded decodeRecord recordCells (getD c recordsAt 0) (
 capacity-is : (c : List ℕ) → decode c .config .settings .capacity ≡ getD c capacityAt 0
 unfolding decode
 capacity-is c = refl
-
--- the place of an entry between others
-key-between : (xs ys : List Entry) (e : Entry) → getD (map (λ (e : Entry). e .0) (xs ++ (e ∷ ys))) (length xs) 0 ≡ e .0
-key-between [] ys e = refl
-key-between (x ∷ xs) ys e = key-between xs ys e
-
-put-at : (o i : ℕ) (x : TableRecord) (es : List Entry) → belowKey o es ≡ take i es → i ≤ length es → IsAt (map (λ (e : Entry). e .0) (put o x es)) o i
-put-at o i x es b h =
-    let n : length (belowKey o es) ≡ i = ap length b ∙ length-take-le i es h in
-    record {
-      within = omega (arith, length-map (put o x es) (λ (e : Entry). e .0), length-append (belowKey o es) ((o, x) ∷ aboveKey o es));
-      same = ap (λ (j : ℕ). getD (map (λ (e : Entry). e .0) (put o x es)) j 0) (sym n) ∙ key-between (belowKey o es) (aboveKey o es) (o, x);
-    }
 
 -- ---- one record of a table
 
@@ -136,9 +121,6 @@ module _ (c : List ℕ) (o i : ℕ) where
         ∙ row-over (decode c) (well .records .most) i (o, x) within
         ∙ ap (λ (es : List Entry). encode (withRecords es (decode c))) (sym (put-among o i x records within about))
 
-    pub written-at : (x : TableRecord) → IsAt (heldBy (with x)) o i
-    written-at x = put-at o i x records (about .below) (omega (arith, within))
-
     -- the row as it is lent
     lent-is : take (recordPlace i + recordCells - recordPlace i) (drop (recordPlace i) c) ≡ recordAt c i
     lent-is = part-is c (recordPlace i) recordCells (s .holds .fits)
@@ -189,6 +171,3 @@ module _ (c : List ℕ) (o i : ℕ) where
           ∙ (λ j. set (putMid recordsFrom (k j) (sym (s .knows .cells) j) (putIn (take (k j) (drop recordsFrom (sym (s .knows .cells) j))) (i * recordCells) (encodeRecord (o, x)))) recordsAt n)
           ∙ row-in (decode c) (parts (decode c) (s .knows .valid) .records .most) i (o, x) place-within n (ap (λ (m : ℕ). m + 1) (sym (records-count c))) room
           ∙ ap (λ (es : List Entry). encode (withRecords es (decode c))) (sym (put-apart o i x records (apart o i records (s .place))))
-
-    pub in-at : (x : TableRecord) → IsAt (heldBy (with x)) o i
-    in-at x = put-at o i x records (apart o i records (s .place) .below) place-within

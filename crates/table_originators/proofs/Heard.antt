@@ -1,5 +1,5 @@
 -- The three ways that a message goes to a record: not counted, counted, or refused since the links are full. Assumes nothing.
-use mathlib.Core.Path.{_≡_, refl, sym, ap, _∙_}
+use mathlib.Core.Path.{_≡_, refl, sym, _∙_}
 use mathlib.Core.Bool.{Bool, true, false, cond, _&&_}
 use mathlib.Core.List.{List}
 use mathlib.Core.Option.{some}
@@ -14,7 +14,6 @@ use Rattle.rules.specs.Rules.{routeOf}
 use Rattle.rules.specs.Table.{TableRecord, table}
 use Rattle.table_layout.specs.Cells.{encode, decode}
 use Rattle.table_changes.specs.Changes.{withRecords}
-use Rattle.count_in_record.specs.declared.Counting.{Counting}
 use Rattle.count_in_record.specs.declared.Counting.the-variants.{Done, LinksFull}
 use Rattle.count_in_record.specs.declared.Heard.{Heard}
 use Rattle.count_in_record.specs.Counting.{hasRoom, isCounted}

@@ -5,10 +5,10 @@ use mathlib.Core.Option.{Option, none, some}
 use mathlib.Core.Bool.{Bool, true, false, false≢true}
 use Prim.Native.Nat.{ℕ, _+_, _*_, _-_, _/_, _≤_, _<_}
 use native.Mathlib.Omega.{arith}
-use lib.Dec.{leb, ltb}
-use lib.ListN.{length, take, drop, getD, length-append, length-drop}
-use lib.Seq.{take-all}
-use borrow.Author.Tests.{lt-ltb, le-ltb, ltb-true, ltb-false, leb-true}
+use lib.Dec.{ltb}
+use lib.ListN.{length, drop, getD, length-append, length-drop}
+use lib.Seq.{take-all, length-take-le}
+use borrow.Author.Tests.{lt-ltb, le-ltb, ltb-true, ltb-false}
 use Rattle.lists.specs.Lists.{maybe, and, all}
 use Rattle.lists.specs.Keyed.{lookup}
 use Rattle.cells.specs.Area.{allZero}
@@ -16,10 +16,11 @@ use Rattle.lists.proofs.Keyed.{lookup-all}
 use Rattle.lists.proofs.Tests.{and-left, and-right, both, and-at}
 use Rattle.cells.proofs.Areas.{length-area}
 use Rattle.cells.proofs.Lent.{cells-from}
-use Rattle.window.specs.Window.{numbers}
 use Rattle.rules.specs.Settings.{Config, linkMost, linkCells, recordHeadCells, linkAreaCells, recordCells, octets, addresses, isAddress}
 use Rattle.rules.specs.Calls.{neighbourOf, pairs}
 use Rattle.rules.specs.Table.{TableRecord}
+use Rattle.rules.proofs.Parts.{Entry, record-parts, few-links}
+use Rattle.window.specs.Window.{numbers}
 use Rattle.rules.specs.WellFormed.{linkTests, recordTests}
 use Rattle.table_record.specs.Links.{linkRow, linkArea, linksFrom}
 use Rattle.table_record.specs.Record.{addressAt, currentAt, timeAt, lastTtlAt, linksAt, bestAt, fieldsOf, encodeRecord, linksPart, linksOf, decodeRecord, unusedLinks, recordOk, Held}
@@ -45,12 +46,8 @@ record-key row = refl
 
 -- ---- the cells of its links
 
--- links reach to the end of a row
-pub part-rest : (row : List ℕ) → length row ≡ recordCells → linksPart row ≡ drop recordHeadCells row
-part-rest row h = take-all linkAreaCells (drop recordHeadCells row) (rw (length-drop recordHeadCells row) (omega arith))
-
 pub part-size : (row : List ℕ) → length row ≡ recordCells → length (linksPart row) ≡ linkAreaCells
-part-size row h = ap length (part-rest row h) ∙ length-drop recordHeadCells row ∙ (omega arith)
+part-size row h = length-take-le linkAreaCells (drop recordHeadCells row) (rw (length-drop recordHeadCells row) (omega arith))
 
 pub part-encoded : (e : ℕ × TableRecord) → linksPart (encodeRecord e) ≡ linkArea linkMost (e .1 .links)
 unfolding encodeRecord
@@ -64,14 +61,9 @@ record-back e h =
     let ls : linksFrom (length (e .1 .links)) (linksPart (encodeRecord e)) ≡ e .1 .links = ap (linksFrom (length (e .1 .links))) (part-encoded e) ∙ links-area linkMost (e .1 .links) h in
     λ i. (e .0, record { current = e .1 .current; time = e .1 .time; lastTtl = e .1 .lastTtl; best = e .1 .best; links = ls i })
 
-links-few : (κ : Config) (now : ℕ) (e : ℕ × TableRecord) → and (recordTests κ now e) ≡ true → length (e .1 .links) ≤ linkMost
-links-few κ now e h =
-    let n = length (e .1 .links) in
-    leb-true n linkMost (and-right (leb 1 n) (leb n linkMost) (and-at (recordTests κ now e) h 6))
-
 -- a record that passes is decoded again
 pub valid-back : (κ : Config) (now : ℕ) (e : ℕ × TableRecord) → and (recordTests κ now e) ≡ true → decodeRecord (encodeRecord e) ≡ e
-valid-back κ now e h = record-back e (links-few κ now e h)
+valid-back κ now e h = record-back e (few-links κ now e (record-parts κ now e h))
 
 unused-zero : (e : ℕ × TableRecord) → allZero (unusedLinks (encodeRecord e)) ≡ true
 unfolding encodeRecord
@@ -89,20 +81,22 @@ module _ (κ : Config) (now : ℕ) (row : List ℕ) (ok : recordOk κ now row �
   unfolding recordOk
   record-valid = and-left (and (recordTests κ now (decodeRecord row))) (allZero (unusedLinks row)) ok
 
+  entry : Entry κ now (decodeRecord row)
+  entry = record-parts κ now (decodeRecord row) record-valid
+
   pub record-unused : allZero (unusedLinks row) ≡ true
   unfolding recordOk
   record-unused = and-right (and (recordTests κ now (decodeRecord row))) (allZero (unusedLinks row)) ok
 
   few : getD row linksAt 0 ≤ linkMost
   unfolding decodeRecord
-  few = subst (λ (k : ℕ). k ≤ linkMost) (length-links (getD row linksAt 0) (linksPart row)) (links-few κ now (decodeRecord row) record-valid)
+  few = subst (λ (k : ℕ). k ≤ linkMost) (length-links (getD row linksAt 0) (linksPart row)) (few-links κ now (decodeRecord row) entry)
 
   -- best is a held link's pair
   best-small : getD row bestAt 0 < pairs
   unfolding decodeRecord
   best-small =
-      let ts = recordTests κ now (decodeRecord row) in
-      go (lookup (getD row bestAt 0) (linksOf row)) refl (and-at ts record-valid 8) (and-at ts record-valid 7)
+      go (lookup (getD row bestAt 0) (linksOf row)) refl (entry .each) (entry .best)
     where
       go : (o : Option ℕ) → lookup (getD row bestAt 0) (linksOf row) ≡ o → all (λ l. and (linkTests κ (getD row bestAt 0) l)) (linksOf row) ≡ true → maybe o false (λ v. true) ≡ true → getD row bestAt 0 < pairs
       go none e a h = absurd (false≢true h)
@@ -114,20 +108,23 @@ module _ (κ : Config) (now : ℕ) (row : List ℕ) (ok : recordOk κ now row �
     pub record-held : Held row
     unfolding decodeRecord
     record-held =
-        let ts = recordTests κ now (decodeRecord row) in
         record {
           size = size;
-          current = ltb-true (getD row currentAt 0) numbers (and-at ts record-valid 2);
-          ttl = ltb-true (getD row lastTtlAt 0) octets (and-at ts record-valid 4);
+          current = ltb-true (getD row currentAt 0) numbers (entry .current);
+          ttl = ltb-true (getD row lastTtlAt 0) octets (entry .ttl);
           few = few;
           best = best-small;
-          rises = and-at ts record-valid 5;
+          rises = entry .rise;
         }
+
+    -- links are the last part of a row
+    part-last : linksPart row ≡ drop recordHeadCells row
+    part-last = take-all linkAreaCells (drop recordHeadCells row) (rw (length-drop recordHeadCells row) (omega arith))
 
     pub record-trip : encodeRecord (decodeRecord row) ≡ row
     unfolding encodeRecord decodeRecord
     record-trip =
         let n = getD row linksAt 0 in
         let part = linksPart row in
-        let ls : linkArea linkMost (linksFrom n part) ≡ drop recordHeadCells row = links-trip linkMost n part (part-size row size) few record-unused ∙ part-rest row size in
+        let ls : linkArea linkMost (linksFrom n part) ≡ drop recordHeadCells row = links-trip linkMost n part (part-size row size) few record-unused ∙ part-last in
         (λ i. getD row addressAt 0 ∷ getD row currentAt 0 ∷ getD row timeAt 0 ∷ getD row lastTtlAt 0 ∷ length-links n part i ∷ getD row bestAt 0 ∷ ls i) ∙ sym (cells-from 0 recordHeadCells row (omega arith))

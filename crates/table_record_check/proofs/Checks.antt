@@ -7,7 +7,7 @@ use Prim.Native.Nat.{ℕ, zero, suc, _+_, _*_, _-_, _%_, _^_, _≤_, _<_}
 use native.Mathlib.Nat.{sub-zero}
 use native.Mathlib.Omega.{arith}
 use lib.Dec.{leb, ltb, eqb}
-use lib.ListN.{length, take, drop, getD}
+use lib.ListN.{take, drop, getD}
 use lib.Pow.{pow-pos}
 use borrow.Author.Tests.{lt-ltb, ltb-true}
 use Rattle.lists.specs.Lists.{and, all, maybe}
@@ -17,14 +17,14 @@ use Rattle.lists.proofs.Tests.{and-left, and-right}
 use Rattle.lists.proofs.Lists.{all-map}
 use Rattle.cells.proofs.Keys.{scan-next, scan-stop, scan-end, scan-is}
 use Rattle.window.specs.Window.{hasMark}
-use Rattle.rules.specs.Settings.{Config, linkMost, linkCells, interfaceMost, within, isAddress, isNumber, isOctet, isOwn}
+use Rattle.rules.specs.Settings.{Config, linkCells, interfaceMost}
 use Rattle.rules.specs.Calls.{interfaceOf, pairs}
-use Rattle.rules.specs.WellFormed.{linkTests}
+use Rattle.rules.specs.WellFormed.{linkTests, fieldTests}
 use Rattle.table_record.proofs.Rows.{small-pair}
-use Rattle.table_record.proofs.Links.{link-key, key-cell, length-links, linksLeft, left-all, left-one, left-none}
+use Rattle.table_record.proofs.Links.{link-key, key-cell, linksLeft, left-all, left-one, left-none}
 use Rattle.table_record_check.specs.declared.Limits.{Limits}
 use Rattle.table_record.specs.Links.{linkIn, linksFrom, linkAt}
-use Rattle.table_record.specs.Record.{addressAt, currentAt, timeAt, lastTtlAt, linksAt, bestAt, linksPart, linksOf, decodeRecord, unusedLinks, recordOk}
+use Rattle.table_record.specs.Record.{addressAt, bestAt, linksOf, decodeRecord, unusedLinks, recordOk}
 use Rattle.table_record_check.specs.Limits.{Describes, fieldsOk, marksOk, linksOk}
 
 pub or-end : (a b c d : Bool) → a || (b || (c || d)) ≡ a || (b || (c || (d || false)))
@@ -116,6 +116,7 @@ links-done κ best part n t h et eh =
     et ∙ ap (λ (k : ℕ). scan (rowOk κ best) 0 (rowsOf linkCells k part)) (sub-zero n) ∙ scan-is linkIn link-key (rowOk κ best) rows
     ∙ ap (λ (b : Bool). rising ls && b) (sym (all-map linkIn (λ l. and (linkTests κ best l)) rows)) in
     go t h (λ e. eh e ∙ ap (hasKey best) (left-all n part)) ∙ ap (λ (b : Bool). b && hasKey best ls) s
+    ∙ and-assoc (rising ls) (all (λ l. and (linkTests κ best l)) ls) (hasKey best ls) ∙ ap (λ (b : Bool). rising ls && (all (λ l. and (linkTests κ best l)) ls && b)) (sym (and-true (hasKey best ls)))
   where
     go : (t h : Bool) → (t ≡ true → h ≡ hasKey best (linksFrom n part)) → t && h ≡ t && hasKey best (linksFrom n part)
     go true h eh = eh refl
@@ -123,33 +124,14 @@ links-done κ best part n t h et eh =
 
 -- ---- the whole record
 
-last-part : (r n h x z : Bool) → r && (n && (h && (x && true))) && z ≡ n && (r && x && h && z)
-last-part true true true x z = ap (λ (b : Bool). b && z) (and-true x ∙ sym (and-true x))
-last-part true true false true z = refl
-last-part true true false false z = refl
-last-part true false h x z = refl
-last-part false true h x z = refl
-last-part false false h x z = refl
-
-sorted-out : (l a o c t y r n h x z : Bool)
-    → l && (a && (o && (c && (t && (y && (r && (n && (h && (x && true)))))))) && z) ≡ l && (a && (o && (c && (t && (y && n))))) && (r && x && h && z)
-sorted-out false a o c t y r n h x z = refl
-sorted-out true false o c t y r n h x z = refl
-sorted-out true true false c t y r n h x z = refl
-sorted-out true true true false t y r n h x z = refl
-sorted-out true true true true false y r n h x z = refl
-sorted-out true true true true true false r n h x z = refl
-sorted-out true true true true true true r n h x z = last-part r n h x z
+regroup : (l f g z : Bool) → l && (f && (g && true) && z) ≡ l && f && (g && z)
+regroup true true g z = ap (λ (b : Bool). b && z) (and-true g)
+regroup true false g z = refl
+regroup false f g z = refl
 
 -- the tests in the order in which the check makes them
 pub record-tests : (κ : Config) (now low : ℕ) (row : List ℕ)
     → leb low (getD row addressAt 0) && recordOk κ now row ≡ fieldsOk κ now low row && (linksOk κ (getD row bestAt 0) (linksOf row) && allZero (unusedLinks row))
 unfolding recordOk decodeRecord
 record-tests κ now low row =
-    let ls = linksOf row in
-    let a = getD row addressAt 0 in
-    let n : length ls ≡ getD row linksAt 0 = length-links (getD row linksAt 0) (linksPart row) in
-    sorted-out (leb low a) (isAddress a) (not (isOwn κ a)) (isNumber (getD row currentAt 0)) (leb (getD row timeAt 0) now) (isOctet (getD row lastTtlAt 0)) (rising ls) (within 1 linkMost (length ls))
-    (hasKey (getD row bestAt 0) ls) (all (λ l. and (linkTests κ (getD row bestAt 0) l)) ls) (allZero (unusedLinks row))
-    ∙ ap (λ (k : ℕ). leb low a && (isAddress a && (not (isOwn κ a) && (isNumber (getD row currentAt 0) && (leb (getD row timeAt 0) now && (isOctet (getD row lastTtlAt 0) && within 1 linkMost k)))))
-    && (linksOk κ (getD row bestAt 0) ls && allZero (unusedLinks row))) n
+    regroup (leb low (getD row addressAt 0)) (and (fieldTests κ now (decodeRecord row))) (linksOk κ (getD row bestAt 0) (linksOf row)) (allZero (unusedLinks row))

@@ -1,18 +1,17 @@
 -- What a record's cells are held to, as the check carries it along.
 use mathlib.Core.Path.{_≡_}
 use mathlib.Core.List.{List, [], _∷_}
-use mathlib.Core.Bool.{Bool, true, _&&_, _||_, not}
+use mathlib.Core.Bool.{Bool, true, _&&_, _||_}
 use Prim.Native.Nat.{ℕ, _^_, _≤_, _<_}
 use lib.Dec.{leb, ltb, eqb}
 use lib.ListN.{length, getD}
-use Rattle.lists.specs.Lists.{and, all, elem}
-use Rattle.lists.specs.Keyed.{rising, hasKey}
+use Rattle.lists.specs.Lists.{and, elem}
 use Rattle.window.specs.Window.{hasMark}
-use Rattle.rules.specs.Settings.{Config, linkMost, windowMost, addresses, within, isOctet, isAddress, isNumber, isOwn}
+use Rattle.rules.specs.Settings.{Config, linkMost, windowMost, addresses, isOwn}
 use Rattle.rules.specs.Calls.{pairs}
-use Rattle.rules.specs.WellFormed.{linkTests}
+use Rattle.rules.specs.WellFormed.{linkTests, fieldTests, linksTests}
 use Rattle.table_record_check.specs.declared.Limits.{Limits}
-use Rattle.table_record.specs.Record.{addressAt, currentAt, timeAt, lastTtlAt, linksAt, recordOk}
+use Rattle.table_record.specs.Record.{addressAt, linksAt, decodeRecord, recordOk}
 
 abbrev pub ownOf : Limits → List ℕ
 ownOf l = l .own_0 ∷ l .own_1 ∷ l .own_2 ∷ l .own_3 ∷ []
@@ -31,11 +30,7 @@ pub record Windowed (l : Limits) : Type 0 where
 
 -- the tests of the fields before the links, where addresses below `low` are passed
 abbrev pub fieldsOk : Config → (now low : ℕ) → List ℕ → Bool
-fieldsOk κ now low row =
-    leb low (getD row addressAt 0)
-    && (isAddress (getD row addressAt 0)
-    && (not (isOwn κ (getD row addressAt 0))
-    && (isNumber (getD row currentAt 0) && (leb (getD row timeAt 0) now && (isOctet (getD row lastTtlAt 0) && within 1 linkMost (getD row linksAt 0))))))
+fieldsOk κ now low row = leb low (getD row addressAt 0) && and (fieldTests κ now (decodeRecord row))
 
 -- marks that a link may have: none outside the window, and one at least unless it is best
 abbrev pub marksOk : (W best pair marks : ℕ) → Bool
@@ -43,7 +38,7 @@ marksOk W best pair marks = ltb marks (2 ^ W) && (hasMark marks || eqb pair best
 
 -- links that may be held: each by itself, rising by the pair, best among them
 abbrev pub linksOk : Config → (best : ℕ) → List (ℕ × ℕ) → Bool
-linksOk κ best ls = rising ls && all (λ l. and (linkTests κ best l)) ls && hasKey best ls
+linksOk κ best ls = and (linksTests κ best ls)
 
 -- ---- what the checks answer, of every table that the limits are those of; a key that passes leaves room for the next
 

@@ -96,10 +96,10 @@ fn fields_ok(row: &[u64], low: u64, limits: Limits) -> bool
     let links = row[LINKS];
     (low <= address)
         & ((address < ADDRESSES)
-            & (!is_own(limits, address)
-                & ((row[CURRENT] < NUMBERS)
-                    & ((row[TIME] <= limits.time)
-                        & ((row[LAST_TTL] < OCTETS) & ((1 <= links) & (links <= LINKS_MOST)))))))
+            & (((1 <= links) & (links <= LINKS_MOST))
+                & (!is_own(limits, address)
+                    & ((row[CURRENT] < NUMBERS)
+                        & ((row[TIME] <= limits.time) & (row[LAST_TTL] < OCTETS))))))
 }
 
 // Whether the cells are those of a record by the rules, where addresses below `low` are passed.

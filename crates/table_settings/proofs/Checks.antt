@@ -23,7 +23,7 @@ use Rattle.table_layout.specs.Cells.{settingsIn, interfacesIn, configIn, sendsI
 use Rattle.table_settings.specs.Check.{headOk, interfaceRowTests, interfaceRowOk, interfacesOk}
 use Rattle.table_layout.specs.Facts.{Sized}
 use Rattle.table_layout.proofs.Interfaces.{numberOk, sends-pass, sends-numbers}
-use Rattle.table_layout.proofs.Encoding.{clause, holds, cells-size, used-length, rows-few, records-few}
+use Rattle.table_layout.proofs.Encoding.{sent-rows, free-interfaces, holds, cells-size, used-length, rows-few, records-few}
 
 -- ---- the head
 
@@ -83,8 +83,8 @@ module _ (c : List ℕ) (h : wellFormed c ≡ true) where
       let address : InterfaceRow → Bool = λ r. and (interfaceTests (r .0)) in
       let a : all (λ row. address (decodeInterface row)) rows ≡ true = sym (all-map decodeInterface address rows) ∙ sym (all-map (λ (r : InterfaceRow). r .0) (λ x. and (interfaceTests x)) (interfacesIn c)) ∙ each-allowed (configIn c) configured in
       let n : all (λ row. numberOk (decodeInterface row)) rows ≡ true = sym (all-map decodeInterface numberOk rows) ∙ sends-numbers (configIn c) 0 (interfacesIn c) (holds c h .sends) in
-      let each = all-weaken _ interfaceRowOk (λ row k. passes row k) rows (all-meet _ _ _ (λ row g k. both g k) rows a (all-meet _ _ _ (λ row g k. both g k) rows (clause c h 2) n)) in
-      both (both each (clause c h 3)) (own-differ (configIn c) configured)
+      let each = all-weaken _ interfaceRowOk (λ row k. passes row k) rows (all-meet _ _ _ (λ row g k. both g k) rows a (all-meet _ _ _ (λ row g k. both g k) rows (sent-rows c h) n)) in
+      both (both each (free-interfaces c h)) (own-differ (configIn c) configured)
     where
       passes : (row : List ℕ) → and (interfaceTests (decodeInterface row .0)) && (and (sentTests row) && numberOk (decodeInterface row)) ≡ true → interfaceRowOk row ≡ true
       passes row k =
@@ -135,9 +135,9 @@ module _ (c : List ℕ) (hd : headOk c ≡ true) (hi : interfacesOk c ≡ true) 
   unfolding interfacesOk
   each-interface = and-left (all interfaceRowOk rows) _ (and-left _ (differ (ownAddresses (configIn c))) hi)
 
-  pub free-interfaces : allZero (unusedInterfaces c) ≡ true
+  pub unused-interfaces : allZero (unusedInterfaces c) ≡ true
   unfolding interfacesOk
-  free-interfaces = and-right (all interfaceRowOk rows) _ (and-left _ (differ (ownAddresses (configIn c))) hi)
+  unused-interfaces = and-right (all interfaceRowOk rows) _ (and-left _ (differ (ownAddresses (configIn c))) hi)
 
   differs : differ (ownAddresses (configIn c)) ≡ true
   unfolding interfacesOk

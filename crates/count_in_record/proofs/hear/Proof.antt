@@ -9,7 +9,7 @@ use borrow.Author.Tests.{not-true, not-false}
 use Rattle.cells.specs.Find.{Sorted}
 use Rattle.rules.specs.Settings.{linkCells, octets}
 use Rattle.table_record.specs.Links.{linksFrom}
-use Rattle.table_record.specs.Record.{linksAt, linksOf, Held}
+use Rattle.table_record.specs.Record.{linksAt, linksOf}
 use Rattle.table_record.proofs.Routes.{held-sorted}
 use Rattle.count_links.specs.Links.{SpotOf}
 use Rattle.count_in_record.proofs.Left.{some-config, some-follows, counted-held}

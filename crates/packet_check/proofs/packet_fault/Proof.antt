@@ -22,9 +22,20 @@ returns-3 c =
     c .refusal3 .ensures
     ∙ other-version _ _ (search needs) (search needs) (λ e. c .before .if3 .taken (c .before .before .wide .ensures ∙ e))
 
+-- ---- earlier places, by name: a line more in the code moves one of these
+
+abbrev from-else1 : tie.Else1 → tie.Start
+from-else1 c = c .before .before
+
+abbrev from-else3 : tie.Else3 → tie.Start
+from-else3 c = from-else1 (c .before .before .before .before)
+
+abbrev from-after-hna-fault : tie.After-hna-fault → tie.Start
+from-after-hna-fault c = from-else3 (c .before .before)
+
 returns-4 : tie.Need-returns-4
 returns-4 c =
-    let s = c .before .before .before .before .before .before .before .before in
+    let s = from-after-hna-fault c in
     c .hna-fault .ensures ∙ ap (λ (e : List ℕ). faultOf (hnaFault e)) (rest headerSize (now (s .args .packet)))
     ∙ same-version _ _ (search needs) (search needs) (search needs)
 

@@ -1,3 +1,4 @@
+-- `main` is safe: its buffers have the lengths that `replay` asks for.
 use borrow.Author.Needs.{needs}
 use mathlib.Core.Path.{_≡_, sym}
 use Prim.Native.Nat.{ℕ}

@@ -1,3 +1,4 @@
+-- `replay` ends: its turns are counted down, and each leaves every buffer as long as it was.
 use borrow.Author.Needs.{needs}
 use mathlib.Core.Path.{_≡_}
 use lib.ListN.{length}

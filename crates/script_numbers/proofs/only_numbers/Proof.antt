@@ -1,3 +1,4 @@
+-- `only_numbers`: the numbers of the line, or that one is missing or a word follows.
 use borrow.Author.Needs.{needs}
 use mathlib.Core.Path.{refl}
 use Rattle.script_numbers.proofs.Laws.{only-read, not-only}

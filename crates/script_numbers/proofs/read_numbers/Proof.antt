@@ -1,3 +1,4 @@
+-- `read_numbers`: after i words the numbers read are the first i of the line.
 use borrow.Author.Needs.{needs}
 use mathlib.Core.Path.{_≡_, refl, ap, _∙_}
 use mathlib.Core.Logic.{⊎-elim}

@@ -1,3 +1,4 @@
+-- `with_digit`: ten times the number and the digit, or that it is no digit or too large, each by its test.
 use borrow.Author.Needs.{needs}
 use native.Mathlib.Omega.{arith}
 use Rattle.script_numbers.proofs.Laws.{below-digits, above-digits, above-most, one-more}

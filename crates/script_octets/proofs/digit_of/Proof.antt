@@ -1,3 +1,4 @@
+-- `digit_of`: the value of each of the two ranges of digits, by its tests.
 use borrow.Author.Needs.{needs}
 use native.Mathlib.Omega.{arith}
 use mathlib.Core.Path.{ap, _∙_}

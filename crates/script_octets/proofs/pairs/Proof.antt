@@ -1,3 +1,4 @@
+-- `pairs`: after i turns the first i octets are those that the word says.
 use borrow.Author.Needs.{needs}
 use mathlib.Core.Path.{_≡_, refl, sym, _∙_}
 use mathlib.Core.Logic.{⊎-elim}
@@ -20,9 +21,20 @@ abbrev μ-loop : tie.MeasureT-loop
 loop-holds : tie.Need-loop-holds Inv-loop μ-loop
 loop-holds c = (omega arith, refl, λ k h. absurd (omega arith))
 
+-- ---- earlier places, by name: a line more in the code moves one of these
+
+abbrev at-loop-from-in-loop : tie.In-loop Inv-loop μ-loop → tie.At-loop Inv-loop μ-loop
+at-loop-from-in-loop c = c .before
+
+abbrev at-loop-from-at-match-keys1 : tie.At-match-keys1 Inv-loop μ-loop → tie.At-loop Inv-loop μ-loop
+at-loop-from-at-match-keys1 c = at-loop-from-in-loop (c .before .before .before .before)
+
+abbrev at-loop-from-after-known-told : tie.After-known-told Inv-loop μ-loop → tie.At-loop Inv-loop μ-loop
+at-loop-from-after-known-told c = at-loop-from-at-match-keys1 (c .before .before)
+
 loop-again : tie.Need-loop-again Inv-loop μ-loop
 loop-again c =
-    let l = c .before .before .before .before .before .before .before in
+    let l = at-loop-from-after-known-told c in
     let a = l .before .before .before .args in
     let e = sym (c .before .before .before .pair .ensures) ∙ c .before .octet .given .1 in
     (omega arith, simp length-set (l .loop .inv .1), octets-more (a .word .now) (l .loop .out) (l .loop .i) (c .before .octet .given .0 .0) (omega arith) (l .loop .inv .2) e)

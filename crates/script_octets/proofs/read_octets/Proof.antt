@@ -1,3 +1,4 @@
+-- `read_octets`: none for `-`, a refusal for an odd or too long word, else the pairs.
 use borrow.Author.Needs.{needs}
 use native.Mathlib.Omega.{arith}
 use mathlib.Core.Path.{refl}

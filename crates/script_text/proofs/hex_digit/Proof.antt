@@ -1,3 +1,4 @@
+-- `hex_digit`: each of the two ranges of values is within an octet.
 use borrow.Author.Needs.{needs}
 use borrow.Author.Tests.{lt-ltb, le-ltb}
 use Rattle.script_text.proofs.hex_digit.Statement.{statement}

@@ -1,3 +1,4 @@
+-- `is_finished`: there is no word exactly if only spaces are left.
 use borrow.Author.Needs.{needs}
 use Rattle.script_words.proofs.Laws.{finished}
 use Rattle.script_words.proofs.is_finished.Statement.{statement}

@@ -1,3 +1,4 @@
+-- `next_word`: the word begins after the spaces and ends where the definition ends it.
 use borrow.Author.Needs.{needs}
 use mathlib.Core.Path.{_∙_, ap}
 use Rattle.script_words.specs.Words.{behind}

@@ -1,3 +1,4 @@
+-- `same`: two words are equal if as long and equal at every place that is passed.
 use borrow.Author.Needs.{needs}
 use mathlib.Core.Path.{_≡_, refl, ap}
 use Prim.Native.Nat.{ℕ, _-_, _≤_, _<_}

@@ -1,3 +1,4 @@
+-- `skip_spaces`: passing a space does not change where the next word begins.
 use borrow.Author.Needs.{needs}
 use mathlib.Core.Path.{_≡_, refl, sym, _∙_}
 use Prim.Native.Nat.{_-_, _≤_}

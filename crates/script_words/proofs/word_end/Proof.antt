@@ -1,3 +1,4 @@
+-- `word_end`: passing an octet of the word does not change what lies behind it.
 use borrow.Author.Needs.{needs}
 use mathlib.Core.Path.{_≡_, refl, sym, _∙_}
 use Prim.Native.Nat.{_-_, _≤_}

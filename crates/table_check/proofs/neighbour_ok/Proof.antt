@@ -5,11 +5,11 @@ use Prim.Native.Nat.{_%_}
 use native.Mathlib.Omega.{arith}
 use borrow.Author.Tests.{le-ltb}
 use Rattle.lists.specs.Lists.{and}
-use Rattle.lists.proofs.Tests.{and-at}
 use Rattle.cells.proofs.Bools.{fails}
 use Rattle.window.specs.Window.{numbers}
-use Rattle.rules.specs.Settings.{isNumber}
+use Rattle.rules.specs.Settings.{interfaceMost, isNumber}
 use Rattle.rules.specs.WellFormed.{rowTests}
+use Rattle.rules.proofs.Parts.{row-parts}
 use Rattle.table_layout.specs.Cells.{configIn, sendsIn}
 use Rattle.table_check.proofs.Turns.{neighbour-tests}
 use Rattle.table_check.proofs.neighbour_ok.Statement.{statement}
@@ -22,13 +22,14 @@ entry c = c .before .before .before .before .before
 returns : tie.Need-returns
 returns c =
     let a = c .before .before .args in
-    let tests = rowTests (configIn (a .cells .now)) (sendsIn (a .cells .now)) (a .pair, a .number) in
-    sym (fails (and tests) (isNumber (a .number)) (λ h. and-at tests h 3) (le-ltb (a .number) numbers (c .if1 .taken)))
+    let κ = configIn (a .cells .now) in
+    let ns = sendsIn (a .cells .now) in
+    sym (fails (and (rowTests κ ns (a .pair, a .number))) (isNumber (a .number)) (λ h. row-parts κ ns (a .pair, a .number) h .number) (le-ltb (a .number) numbers (c .if1 .taken)))
 
 cast-distance : tie.Need-cast-distance
 cast-distance c =
     let s = entry c in
-    omega (arith, s .pre .1 .last (s .args .pair % 4) (omega arith))
+    omega (arith, s .pre .1 .last (s .args .pair % interfaceMost) (omega arith))
 
 returns-2 : tie.Need-returns-2
 returns-2 c =

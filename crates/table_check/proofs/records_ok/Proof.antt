@@ -10,7 +10,7 @@ use lib.Dec.{eqb}
 use borrow.Author.Tests.{not-true, not-false, eq-eqb, ne-eqb, eqb-true}
 use Rattle.cells.specs.Area.{allZero}
 use Rattle.cells.proofs.Lent.{part-first, tail-is}
-use Rattle.rules.specs.Settings.{Config, recordCells}
+use Rattle.rules.specs.Settings.{addresses, Config, recordCells}
 use Rattle.table_record_check.specs.Limits.{Describes}
 use Rattle.table_check.proofs.Turns.{records-from, records-next, records-stop, records-end, records-done}
 use Rattle.table_check.proofs.records_ok.Statement.{statement}
@@ -37,7 +37,7 @@ add-low c =
     let l = turn c .loop in
     let p = entry (turn c) .args .part .now in
     let e : getD (take (l .at + recordCells - l .at) (drop (l .at) p)) addressAt 0 ≡ getD p (l .at) 0 = part-first p (l .at) recordCells (omega arith) (omega arith) in
-    let h : getD p (l .at) 0 < 4294967296 = subst (λ (k : ℕ). k < 4294967296) e (c .before .before .record-ok .ensures .small (not-false _ (c .before .if1 .left))) in
+    let h : getD p (l .at) 0 < addresses = subst (λ (k : ℕ). k < addresses) e (c .before .before .record-ok .ensures .small (not-false _ (c .before .if1 .left))) in
     omega (arith, h)
 
 loop-again : tie.Need-loop-again Inv-loop μ-loop

@@ -4,7 +4,6 @@ use denote.Ref.{now}
 use Rattle.table_originators.proofs.Records.{lent-sorted, found-record}
 use Rattle.table_originators.proofs.find_record.Statement.{statement}
 use Rattle.table_originators.proofs.find_record.Tie as tie
-use Rattle.cells.proofs.find.Reads as find-reads
 
 find-requires : tie.Need-find-requires
 find-requires c κs = let s = c .before .before .before in lent-sorted (now (s .args .cells)) (s .pre)

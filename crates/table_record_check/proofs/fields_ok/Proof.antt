@@ -2,12 +2,13 @@
 use borrow.Author.Needs.{needs}
 use borrow.Author.Tests.{ltb-true, leb-true}
 use Rattle.lists.proofs.Tests.{and-left, and-right}
-use mathlib.Core.Path.{_∙_}
-use mathlib.Core.Bool.{_&&_, not}
+use mathlib.Core.Path.{sym, _∙_}
+use mathlib.Core.Bool.{_&&_, not, and-true}
 use lib.Dec.{leb}
 use lib.ListN.{getD}
 use Rattle.rules.specs.Settings.{linkMost, addresses, isAddress, isNumber, isOctet, within}
-use Rattle.table_record.specs.Record.{addressAt, currentAt, timeAt, lastTtlAt, linksAt}
+use Rattle.table_record.specs.Record.{addressAt, currentAt, timeAt, lastTtlAt, linksAt, linksPart, decodeRecord}
+use Rattle.table_record.proofs.Links.{length-links}
 use Rattle.table_record_check.proofs.fields_ok.Statement.{statement}
 use Rattle.table_record_check.proofs.fields_ok.Tie as tie
 
@@ -15,6 +16,7 @@ abbrev from-own : tie.After-is-own → tie.Start
 from-own c = c .before .before .before .before
 
 returns : tie.Need-returns
+unfolding decodeRecord
 returns c =
     let o = c .before .before .before .before in
     let a = from-own o .args in
@@ -24,11 +26,11 @@ returns c =
     let own = o .is-own in
     record {
       small = λ h. ltb-true address addresses (and-left (isAddress address) _ (and-right (leb (a .low) address) _ h));
-      few = λ h. leb-true n linkMost (and-right (leb 1 n) _ (and-right (isOctet (getD row lastTtlAt 0)) _ (and-right (leb (getD row timeAt 0) (a .limits .time)) _
-          (and-right (isNumber (getD row currentAt 0)) _ (and-right (not (own .result)) _ (and-right (isAddress address) _ (and-right (leb (a .low) address) _ h)))))));
+      few = λ h. leb-true n linkMost (and-right (leb 1 n) _ (and-left (within 1 linkMost n) _ (and-right (isAddress address) _ (and-right (leb (a .low) address) _ h))));
       tests = λ κ time d.
           let mine = own .ensures ∙ d .own address in
-          λ i. leb (a .low) address && (isAddress address && (not (mine i) && (isNumber (getD row currentAt 0) && (leb (getD row timeAt 0) (d .time i) && (isOctet (getD row lastTtlAt 0) && within 1 linkMost n)))));
+          let held = sym (length-links n (linksPart row)) in
+          λ i. leb (a .low) address && (isAddress address && (within 1 linkMost (held i) && (not (mine i) && (isNumber (getD row currentAt 0) && (leb (getD row timeAt 0) (d .time i) && sym (and-true (isOctet (getD row lastTtlAt 0))) i)))));
     }
 
 pub fields-ok-spec : {M : Type 1} → statement M

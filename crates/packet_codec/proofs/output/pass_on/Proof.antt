@@ -14,10 +14,18 @@ use Rattle.packet_codec.proofs.output.pass_on.Tie as tie
 slice-write-out-2 : tie.Need-slice-write-out-2
 slice-write-out-2 c = simp length-set (omega arith)
 
+-- ---- earlier places, by name: a line more in the code moves one of these
+
+abbrev from-after-copy-arg : tie.After-copy-arg → tie.Start
+from-after-copy-arg c = c .before .before .before
+
+abbrev from-after-shared-slice-known2 : tie.After-shared-slice-known2 → tie.Start
+from-after-shared-slice-known2 c = from-after-copy-arg (c .before .before .before .before)
+
 returns : tie.Need-returns
 unfolding passedOn
 returns c =
-    let s = c .before .before .before .before .before .before .before in
+    let s = from-after-shared-slice-known2 c in
     let p : List ℕ = now (s .args .packet) in
     let o : List ℕ = now (s .args .out) in
     stores flagsAt ttlAt p o _ _ _ (search needs) (search needs) (copied p o _ (c .before .before .before .copy .ensures .1))

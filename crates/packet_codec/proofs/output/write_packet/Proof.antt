@@ -11,10 +11,18 @@ use Rattle.wire.proofs.Lent.{copied, then-rest}
 use Rattle.packet_codec.proofs.output.write_packet.Statement.{statement}
 use Rattle.packet_codec.proofs.output.write_packet.Tie as tie
 
+-- ---- earlier places, by name: a line more in the code moves one of these
+
+abbrev after-copy-from-after-slice-known2 : tie.After-slice-known2 → tie.After-copy
+after-copy-from-after-slice-known2 c = c .before .before
+
+abbrev after-copy-from-after-slice-known3 : tie.After-slice-known3 → tie.After-copy
+after-copy-from-after-slice-known3 c = after-copy-from-after-slice-known2 (c .before .before .before .before)
+
 returns : tie.Need-returns
 unfolding packetOf headerOctets
 returns c =
-    let first = c .before .before .before .before .before .before in
+    let first = after-copy-from-after-slice-known3 c in
     let made = first .before .before .before in
     let s = made .before .before .before in
     let o : List ℕ = now (s .args .out) in

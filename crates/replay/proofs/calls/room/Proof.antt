@@ -1,3 +1,4 @@
+-- `room`: the output that is lent is within the buffer, for every number.
 use mathlib.Core.Path.{sym}
 use lib.Seq.{length-take-le}
 use native.Mathlib.Omega.{arith}

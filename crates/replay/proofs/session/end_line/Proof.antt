@@ -1,3 +1,4 @@
+-- `end_line` is safe: the line that is answered is within its buffer.
 use borrow.Author.Needs.{needs}
 use mathlib.Core.Path.{sym}
 use lib.Seq.{length-take-le}

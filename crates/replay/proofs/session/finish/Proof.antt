@@ -1,3 +1,4 @@
+-- `finish` is safe: what is written out is within the text.
 use borrow.Author.Needs.{needs}
 use mathlib.Core.Path.{sym}
 use lib.Seq.{length-take-le}

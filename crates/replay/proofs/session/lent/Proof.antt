@@ -1,3 +1,4 @@
+-- `lent`: the cells that are lent are within the buffer, for every number.
 use mathlib.Core.Path.{sym}
 use lib.Seq.{length-take-le}
 use native.Mathlib.Omega.{arith}

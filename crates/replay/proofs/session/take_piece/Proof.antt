@@ -1,3 +1,4 @@
+-- `take_piece` ends and is safe: each turn passes one octet of the piece and leaves every buffer as long as it was.
 use borrow.Author.Needs.{needs}
 use mathlib.Core.Path.{_≡_}
 use Prim.Native.Nat.{_-_, _≤_}
