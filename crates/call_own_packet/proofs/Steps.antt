@@ -21,14 +21,14 @@ use Rattle.lists.specs.Keyed.{put, rising}
 use Rattle.cells.specs.Pairs.{pairArea, pairsOf}
 use Rattle.cells.proofs.Pairs.{pairs-area}
 use Rattle.rules.specs.declared.Written.{Written}
-use Rattle.rules.specs.Settings.{Config, neighbourMost, interfaceCells, isNumber}
+use Rattle.rules.specs.Settings.{Config, neighbourAreaCells, neighbourMost, interfaceCells, isNumber}
 use Rattle.rules.specs.Calls.{interfaceOf, written, writtenAs, answeredWriting}
 use Rattle.rules.specs.Rules.{Sends, lastSent, nextNumber, sendOn, ownHeader, send}
 use Rattle.rules.specs.WellFormed.{rowTests}
 use Rattle.rules.proofs.Sends.{last-own}
 use Rattle.rules.specs.Table.{TableRows, TableState, rowDistance, dropOld}
 use Rattle.rules.proofs.WellFormed.{Wf, parts}
-use Rattle.table_layout.specs.Layout.{timeoutAt, usedAt, timeAt, rowsAt, neighboursFrom, recordsFrom, sentAt, lastAt, ownPlace}
+use Rattle.table_layout.specs.Layout.{timeoutAt, usedAt, timeAt, rowsAt, neighboursFrom, neighbourPart, sentAt, lastAt, ownPlace}
 use Rattle.table_layout.specs.Cells.{encode, decode}
 use Rattle.table_layout.specs.Facts.{Knows}
 use Rattle.table_changes.specs.Changes.{withTime, withSends, withRows}
@@ -72,19 +72,19 @@ rows-part s r m a =
     record { size = encoded-size s; held = subst (RowsHeld (getD (encode s) rowsAt 0)) (sym (rows-lent s)) (subst (λ (n : ℕ). RowsHeld n (pairArea neighbourMost (s .rows))) (sym (head-rows s)) h) }
 
 pub rows-dropped : (s : TableState) (c d : List ℕ) (n kept i last t : ℕ) → c ≡ encode s → n ≡ getD c rowsAt 0
-    → d ≡ pairArea neighbourMost (keep (staysAfter i last (getD c timeoutAt 0)) (pairsOf n (take (recordsFrom - neighboursFrom) (drop neighboursFrom c))))
-    → kept ≡ length (keep (staysAfter i last (getD c timeoutAt 0)) (pairsOf n (take (recordsFrom - neighboursFrom) (drop neighboursFrom c))))
+    → d ≡ pairArea neighbourMost (keep (staysAfter i last (getD c timeoutAt 0)) (pairsOf n (neighbourPart c)))
+    → kept ≡ length (keep (staysAfter i last (getD c timeoutAt 0)) (pairsOf n (neighbourPart c)))
     → length (s .rows) ≤ neighbourMost
-    → set (set (putMid neighboursFrom (recordsFrom - neighboursFrom) c d) rowsAt kept) timeAt t ≡ encode (withTime t (withRows (keep (staysAfter i last (s .config .settings .timeout)) (s .rows)) s))
+    → set (set (putMid neighboursFrom neighbourAreaCells c d) rowsAt kept) timeAt t ≡ encode (withTime t (withRows (keep (staysAfter i last (s .config .settings .timeout)) (s .rows)) s))
 rows-dropped s c d n kept i last t e en ed ek m =
     let left : List (ℕ × ℕ) = keep (staysAfter i last (s .config .settings .timeout)) (s .rows) in
     let b : getD c timeoutAt 0 ≡ s .config .settings .timeout = ap (λ (l : List ℕ). getD l timeoutAt 0) e ∙ head-timeout s in
     let n′ : n ≡ length (s .rows) = en ∙ ap (λ (l : List ℕ). getD l rowsAt 0) e ∙ head-rows s in
-    let part : take 64 (drop neighboursFrom c) ≡ pairArea neighbourMost (s .rows) = ap (λ (l : List ℕ). take 64 (drop neighboursFrom l)) e ∙ rows-lent s in
-    let rs : pairsOf n (take 64 (drop neighboursFrom c)) ≡ s .rows = ap₂ pairsOf n′ part ∙ pairs-area neighbourMost (s .rows) m in
-    let kp : keep (staysAfter i last (getD c timeoutAt 0)) (pairsOf n (take 64 (drop neighboursFrom c))) ≡ left =
+    let part : neighbourPart c ≡ pairArea neighbourMost (s .rows) = ap neighbourPart e ∙ rows-lent s in
+    let rs : pairsOf n (neighbourPart c) ≡ s .rows = ap₂ pairsOf n′ part ∙ pairs-area neighbourMost (s .rows) m in
+    let kp : keep (staysAfter i last (getD c timeoutAt 0)) (pairsOf n (neighbourPart c)) ≡ left =
     ap₂ (λ (x : ℕ) (l : List (ℕ × ℕ)). keep (staysAfter i last x) l) b rs in
-    ap₂ (λ (x : List ℕ) (k : ℕ). set (set x rowsAt k) timeAt t) (ap₂ (λ (x y : List ℕ). putMid neighboursFrom 64 x y) e (ed ∙ ap (pairArea neighbourMost) kp)) (ek ∙ ap length kp)
+    ap₂ (λ (x : List ℕ) (k : ℕ). set (set x rowsAt k) timeAt t) (ap₂ (λ (x y : List ℕ). putMid neighboursFrom neighbourAreaCells x y) e (ed ∙ ap (pairArea neighbourMost) kp)) (ek ∙ ap length kp)
     ∙ ap (λ (x : List ℕ). set x timeAt t) (rows-back s left) ∙ time-set (withRows left s) t
 
 pub rows-few : (s : TableState) (c : List ℕ) → RowsPart c → c ≡ encode s → length (s .rows) ≤ neighbourMost

@@ -11,7 +11,7 @@ use Rattle.lists.specs.Lists.{maybe}
 use Rattle.lists.specs.Keyed.{lookup}
 use Rattle.window.specs.Window.{numbers}
 use Rattle.rules.specs.declared.Interface.{Interface}
-use Rattle.rules.specs.Settings.{interfaceMost, interfaceCells, interfaceAt}
+use Rattle.rules.specs.Settings.{octets, addresses, interfaceMost, interfaceCells, interfaceAt}
 use Rattle.rules.specs.Rules.{Sends, nextNumber}
 use Rattle.rules.specs.Table.{TableState}
 use Rattle.rules.proofs.Config.{first-lt, version-high, own-lt}
@@ -34,14 +34,14 @@ few c k = omega (arith, used-read c, k .sized .used-most)
 -- ---- the next number, by an interface's row
 
 module _ (row : List ℕ) (x : Interface) (fits : x .first < numbers) where
-  pub one-more : (last : Option ℕ) → row ≡ encodeInterface (x, last) → getD row sentAt 0 ≡ 1 → (getD row lastAt 0 % 65536 + 1) % 65536 ≡ maybe last (x .first) (λ n. (n + 1) % numbers)
+  pub one-more : (last : Option ℕ) → row ≡ encodeInterface (x, last) → getD row sentAt 0 ≡ 1 → (getD row lastAt 0 % numbers + 1) % numbers ≡ maybe last (x .first) (λ n. (n + 1) % numbers)
   unfolding encodeInterface
   one-more none e h = absurd (let z : _≡_ {A = ℕ} 0 1 = sym (ap (λ (l : List ℕ). getD l sentAt 0) e) ∙ h in omega arith)
-  one-more (some n) e h = ap (λ (l : List ℕ). (getD l lastAt 0 % 65536 + 1) % 65536) e ∙ omega arith
+  one-more (some n) e h = ap (λ (l : List ℕ). (getD l lastAt 0 % numbers + 1) % numbers) e ∙ omega arith
 
-  pub the-first : (last : Option ℕ) → row ≡ encodeInterface (x, last) → (getD row sentAt 0 ≡ 1 → ⊥) → getD row firstAt 0 % 65536 ≡ maybe last (x .first) (λ n. (n + 1) % numbers)
+  pub the-first : (last : Option ℕ) → row ≡ encodeInterface (x, last) → (getD row sentAt 0 ≡ 1 → ⊥) → getD row firstAt 0 % numbers ≡ maybe last (x .first) (λ n. (n + 1) % numbers)
   unfolding encodeInterface
-  the-first none e h = ap (λ (l : List ℕ). getD l firstAt 0 % 65536) e ∙ mod-eq-of-lt fits
+  the-first none e h = ap (λ (l : List ℕ). getD l firstAt 0 % numbers) e ∙ mod-eq-of-lt fits
   the-first (some n) e h = absurd (h (ap (λ (l : List ℕ). getD l sentAt 0) e))
 
 -- ---- the message, by the cells of the head and of the interface's row
@@ -78,16 +78,16 @@ module _ (c : List ℕ) (k : Knows c) (i : ℕ) (used : i < getD c usedAt 0) whe
   first-fits : interfaceAt (decode c .config) i .first < numbers
   first-fits = first-lt (decode c .config) (well .allowed) i
 
-  pub version-is : getD c versionAt 0 % 256 ≡ decode c .config .settings .version
+  pub version-is : getD c versionAt 0 % octets ≡ decode c .config .settings .version
   version-is =
-      ap (λ (l : List ℕ). getD l versionAt 0 % 256) is ∙ ap (λ (n : ℕ). n % 256) (head-version (decode c))
+      ap (λ (l : List ℕ). getD l versionAt 0 % octets) is ∙ ap (λ (n : ℕ). n % octets) (head-version (decode c))
       ∙ mod-eq-of-lt (omega (arith, version-high (decode c .config) (well .allowed)))
 
-  pub own-is : getD c (ownPlace i + ownAt) 0 % 4294967296 ≡ interfaceAt (decode c .config) i .own
+  pub own-is : getD c (ownPlace i + ownAt) 0 % addresses ≡ interfaceAt (decode c .config) i .own
   own-is =
       let e : getD c (ownPlace i + ownAt) 0 ≡ getD (take interfaceCells (drop (ownPlace i) c)) ownAt 0 =
       sym (getD-take interfaceCells (drop (ownPlace i) c) ownAt 0 (omega arith) ∙ getD-drop (ownPlace i) c ownAt 0) in
-      ap (λ (n : ℕ). n % 4294967296) (e ∙ ap (λ (l : List ℕ). getD l ownAt 0) row-is ∙ row-own (interfaceAt (decode c .config) i, lookup i (decode c .sends)))
+      ap (λ (n : ℕ). n % addresses) (e ∙ ap (λ (l : List ℕ). getD l ownAt 0) row-is ∙ row-own (interfaceAt (decode c .config) i, lookup i (decode c .sends)))
       ∙ mod-eq-of-lt (own-lt (decode c .config) (well .allowed) i)
 
   -- so its next number is that of the rules

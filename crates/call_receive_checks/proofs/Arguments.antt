@@ -12,7 +12,7 @@ use Rattle.lists.specs.Lists.{all}
 use Rattle.lists.proofs.Tests.{both}
 use Rattle.wire.specs.declared.Fault.{Fault}
 use Rattle.wire.specs.Check.{numbered, packetFault}
-use Rattle.rules.specs.Settings.{isAddress, isOctet, isTime}
+use Rattle.rules.specs.Settings.{octets, addresses, isAddress, isOctet, isTime}
 use Rattle.rules.specs.Rules.{receiveFault}
 use Rattle.rules.proofs.Faults.{first-single}
 use Rattle.table_layout.specs.Layout.{versionAt, usedAt, timeAt}
@@ -20,12 +20,12 @@ use Rattle.table_layout.specs.Cells.{decode}
 use Rattle.table_changes.proofs.Values.{used-read}
 use Rattle.call_receive_arrival.specs.Receiving.{argsOf}
 
-pub octets-of : (p : List ℕ) → ((k : ℕ) → getD p k 0 < 256) → all isOctet p ≡ true
+pub octets-of : (p : List ℕ) → ((k : ℕ) → getD p k 0 < octets) → all isOctet p ≡ true
 octets-of [] f = refl
-octets-of (x ∷ p) f = both (lt-ltb x 256 (f 0)) (octets-of p (λ k. f (suc k)))
+octets-of (x ∷ p) f = both (lt-ltb x octets (f 0)) (octets-of p (λ k. f (suc k)))
 
-pub typed-of : (p : List ℕ) (a t : ℕ) → a < 4294967296 → ((k : ℕ) → getD p k 0 < 256) → t < 18446744073709551616 → (isAddress a && (all isOctet p && (isTime t && true))) ≡ true
-typed-of p a t ha hp ht = both (lt-ltb a 4294967296 ha) (both (octets-of p hp) (both (lt-ltb t 18446744073709551616 ht) refl))
+pub typed-of : (p : List ℕ) (a t : ℕ) → a < addresses → ((k : ℕ) → getD p k 0 < octets) → t < 18446744073709551616 → (isAddress a && (all isOctet p && (isTime t && true))) ≡ true
+typed-of p a t ha hp ht = both (lt-ltb a addresses ha) (both (octets-of p hp) (both (lt-ltb t 18446744073709551616 ht) refl))
 
 -- ---- the first refusal of cells c and a packet p from a by interface i at time t, with the output o
 

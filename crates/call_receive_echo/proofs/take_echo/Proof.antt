@@ -3,12 +3,12 @@ use mathlib.Core.Path.{_∙_, subst}
 use denote.Ref.{now}
 use lib.ListN.{getD, length-set}
 use Rattle.wire.specs.Packet.{header}
-use Rattle.table_layout.specs.Layout.{rowsAt}
+use Rattle.table_layout.specs.Layout.{rowsAt, neighbourPart}
 use Rattle.table_neighbours.specs.declared.Echo.{Echo}
 use Rattle.table_neighbours.specs.Neighbours.{EchoTaken, Recorded}
 use Rattle.call_receive_arrival.specs.Receiving.{callOf}
 use Rattle.call_receive_arrival.proofs.Endings.{originator-is, leaves-by, refused-left, verdict-leaves}
-use Rattle.call_receive_arrival.proofs.Rows.{lent, rows-held}
+use Rattle.call_receive_arrival.proofs.Rows.{rows-held}
 use Rattle.call_receive_echo.proofs.Echoes.{full-cells, full-way, echo-way, echo-ends}
 use borrow.Author.Needs.{needs}
 use Rattle.call_receive_echo.proofs.take_echo.Statement.{statement}
@@ -23,7 +23,7 @@ from-echo c = c .before .before .before .before .before
 abbrev EchoLeft : tie.After-record-echo → Echo → Type 0
 EchoLeft c x =
     let a = from-echo c .args in
-    EchoTaken (getD (now (a .cells)) rowsAt 0) (lent (now (a .cells))) (c .record-echo .last .0) (a .m .ogm .link) (a .m .ogm .sequence) x
+    EchoTaken (getD (now (a .cells)) rowsAt 0) (neighbourPart (now (a .cells))) (c .record-echo .last .0) (a .m .ogm .link) (a .m .ogm .sequence) x
 
 abbrev full-echo : tie.After-enum-told → tie.After-record-echo
 full-echo c = c .before .before .before .before
@@ -46,7 +46,7 @@ returns c p o t =
 -- ---- the row takes the number
 
 recorded : (c : tie.After-e) → let e = taken-echo c in let a = from-echo e .args in
-    Recorded (getD (now (a .cells)) rowsAt 0) (lent (now (a .cells))) (e .record-echo .last .0) (a .m .ogm .link) (a .m .ogm .sequence) (c .e .given .0 .0)
+    Recorded (getD (now (a .cells)) rowsAt 0) (neighbourPart (now (a .cells))) (e .record-echo .last .0) (a .m .ogm .link) (a .m .ogm .sequence) (c .e .given .0 .0)
 recorded c = let e = taken-echo c in subst (EchoLeft e) (c .e .given .1) (e .record-echo .ensures)
 
 verdict-requires : tie.Need-verdict-requires
