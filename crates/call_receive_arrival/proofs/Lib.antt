@@ -2,4 +2,3 @@
 pub mod Ways
 pub mod Tables
 pub mod Endings
-pub mod Rows

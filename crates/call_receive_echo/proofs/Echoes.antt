@@ -29,7 +29,7 @@ use Rattle.call_receive_arrival.specs.declared.Arrival.{Arrival}
 use Rattle.call_receive_arrival.specs.Receiving.{callOf, after, Ends, Fits, Taken, Echoes}
 use Rattle.call_receive_arrival.proofs.Ways.{way-9, way-22}
 use Rattle.call_receive_arrival.proofs.Endings.{link-is, sequence-is, kept-by}
-use Rattle.call_receive_arrival.proofs.Rows.{rows-are}
+use Rattle.table_neighbours.proofs.Lent.{rows-are}
 
 rows-count : (c : List ℕ) → length (decode c .rows) ≡ getD c rowsAt 0
 rows-count c = ap length (sym (rows-are c)) ∙ length-pairs (getD c rowsAt 0) (neighbourPart c)

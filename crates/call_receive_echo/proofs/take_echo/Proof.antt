@@ -8,7 +8,7 @@ use Rattle.table_neighbours.specs.declared.Echo.{Echo}
 use Rattle.table_neighbours.specs.Neighbours.{EchoTaken, Recorded}
 use Rattle.call_receive_arrival.specs.Receiving.{callOf}
 use Rattle.call_receive_arrival.proofs.Endings.{originator-is, leaves-by, refused-left, verdict-leaves}
-use Rattle.call_receive_arrival.proofs.Rows.{rows-held}
+use Rattle.table_neighbours.proofs.Lent.{rows-held}
 use Rattle.call_receive_echo.proofs.Echoes.{full-cells, full-way, echo-way, echo-ends}
 use borrow.Author.Needs.{needs}
 use Rattle.call_receive_echo.proofs.take_echo.Statement.{statement}

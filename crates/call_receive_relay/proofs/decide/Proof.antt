@@ -6,7 +6,7 @@ use Rattle.lists.specs.Keyed.{hasKey}
 use Rattle.cells.specs.declared.Found.{Found}
 use Rattle.table_originators.specs.Originators.{RecordFound}
 use Rattle.call_receive_arrival.specs.Receiving.{Decides}
-use Rattle.call_receive_arrival.proofs.Rows.{rows-held, rows-are}
+use Rattle.table_neighbours.proofs.Lent.{rows-held, rows-are}
 use Rattle.call_receive_relay.proofs.decide.Statement.{statement}
 use Rattle.call_receive_relay.proofs.decide.Tie as tie
 
