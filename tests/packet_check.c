@@ -138,7 +138,7 @@ static unsigned long outside(const char *name)
     return packets;
 }
 
-/* The plain examples: what the rules' own page says of the check. */
+/* The plain examples: what RULES 3.6 and 11.2 say of the check. */
 static void example(const char *what, const uint8_t *packet, size_t length, uint64_t should)
 {
     uint64_t is = batman_packet_check(packet, length, 4);

@@ -1,4 +1,4 @@
-//! The plain book: what document 01, section "The book", keeps and how it answers.
+//! The plain book: what RULES 9, "The book", keeps and how it answers.
 //! No marks are kept anywhere: every word (current, duplicate, count, best, held links) is
 //! computed from the lists of counted originator messages by `words.rs`.
 

@@ -1,4 +1,4 @@
-//! Writes a script that plays at the edges of document 01. A player follows every line, so
+//! Writes a script that plays at the edges of the rules. A player follows every line, so
 //! that packets get echoed, counted and refused on purpose; nothing but the seed decides.
 
 mod breaks;

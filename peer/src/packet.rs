@@ -1,4 +1,4 @@
-//! The octets on the air: reading, writing and checking a packet, by document 01's layout.
+//! The octets on the air: reading, writing and checking a packet, by the layout of RULES 3.
 
 use crate::book::{refusal, Refusal};
 

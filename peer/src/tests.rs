@@ -1,4 +1,4 @@
-//! The examples of document 01, its "Errors that come easily", and self-checks of the peer.
+//! The examples of docs/RULES.md (section 11), its errors that come easily (12), and self-checks of the peer.
 
 use crate::book::Book;
 use crate::cells::{

@@ -14,7 +14,7 @@ use Rattle.table_layout.specs.Cells.{settingsRow}
 abbrev pub makeArgs : Settings → List Interface → (used : ℕ) → MakeArgs
 makeArgs σ rows used = record { settings = σ; rows = rows; used = used }
 
--- how many cells a capacity needs; 0 for one that is not allowed
+-- how many cells a capacity needs; 0 for one that is not allowed (RULES 2.4)
 unfoldable pub neededFor : (capacity : ℕ) → ℕ
 neededFor capacity = cond (within 1 capacityMost capacity) (cellsNeeded capacity) 0
 

@@ -1,4 +1,4 @@
--- Demand 3 whole: one claim about a history of the public calls on lent cells. `callOn` is what each public call's contract cites.
+-- Demand 3 whole: one claim about a history of the public calls on lent cells. `callOn` is what each public call's contract cites. (RULES 10)
 use Prim.Native.Nat.{ℕ}
 use mathlib.Core.Path.{_≡_}
 use mathlib.Core.Bool.{true, not}

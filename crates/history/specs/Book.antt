@@ -1,4 +1,4 @@
--- Document 01, "The book": its words, computed from the counted OGMs of each originator, and from the own packets since each link's latest echo.
+-- RULES 9, "The book": its words, computed from the counted OGMs of each originator, and from the own packets since each link's latest echo.
 use Prim.Native.Nat.{ℕ, _+_}
 use mathlib.Core.Bool.{Bool, cond, _&&_, _||_}
 use mathlib.Core.List.{List, [], _∷_, map}
@@ -76,7 +76,7 @@ recent κ es = keep (λ (e : ℕ × ℕ). ltb (e .1) (κ .settings .timeout)) es
 abbrev pub oneMore : (interface : ℕ) → ℕ × ℕ → ℕ × ℕ
 oneMore i e = (e .0, e .1 + cond (eqb (interfaceOf (e .0)) i) 1 0)
 
--- ---- the book
+-- ---- the book (RULES 9.2, 9.3)
 
 abbrev pub book : Words
 book =

@@ -1,4 +1,4 @@
--- Demand 3: one claim about a whole history. It takes "counted" from the book.
+-- Demand 3: one claim about a whole history. It takes "counted" from the book. (RULES 10.2)
 use Prim.Native.Nat.{ℕ, _<_, _≤_}
 use mathlib.Core.Path.{_≡_}
 use mathlib.Core.Logic.{_↔_}

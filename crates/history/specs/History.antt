@@ -1,4 +1,4 @@
--- A history: calls on a table of so many cells, each on what the one before left, and what each gives back.
+-- A history: calls on a table of so many cells, each on what the one before left, and what each gives back. (RULES 10.1)
 use Prim.Native.Nat.{ℕ}
 use mathlib.Core.List.{List, [], _∷_}
 use Rattle.rules.specs.Calls.{Call, Reply}

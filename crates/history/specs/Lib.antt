@@ -1,4 +1,4 @@
--- Document 01, "The book", and demand 3.
+-- RULES 9, "The book", and 10, demand 3.
 pub mod Book
 pub mod History
 pub mod Demand

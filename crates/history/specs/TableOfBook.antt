@@ -1,4 +1,4 @@
--- The table that a book describes: each record is what its originator's log says, each neighbour row what a recent echo says.
+-- The table that a book describes: each record is what its originator's log says, each neighbour row what a recent echo says. (RULES 10.2)
 use Prim.Native.Nat.{ℕ}
 use mathlib.Core.List.{map}
 use Rattle.lists.specs.Keyed.{tabulate, mapValues}

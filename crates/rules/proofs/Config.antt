@@ -12,7 +12,7 @@ use Rattle.window.specs.Window.{numbers}
 use Rattle.rules.specs.declared.Settings.{Settings}
 use Rattle.rules.specs.Settings.{addresses, versionMost, windowMost, timeoutMost, purgeMost, capacityMost, interfaceMost, within, differ, ownAddresses, MakeArgs, Config, configOf, interfaceAt, interfaceTests, settingsTests, settingsOk, configTests, allowed, cellsNeeded, makeTests, makeAllowed}
 
--- what a capacity needs is within document 01's bound
+-- what a capacity needs is within the bound of RULES 2.4
 pub cells-most : (capacity : ℕ) → cellsNeeded capacity ≤ 1024 + 256 * capacity
 unfolding cellsNeeded
 cells-most capacity = omega arith

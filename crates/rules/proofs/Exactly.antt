@@ -1,4 +1,4 @@
--- The rules, step by step, come to what the page's lists say: each refusal is given exactly when its fact holds and none earlier does.
+-- The rules, step by step, come to what the tables of RULES 6.1 and 8.2 say: each refusal is given exactly when its fact holds and none earlier does.
 use Prim.Native.Nat.{ℕ, _+_}
 use mathlib.Core.Path.{_≡_, refl, sym, ap, _∙_, subst}
 use mathlib.Core.Bool.{Bool, true, false, cond, _&&_, not, true≢false, false≢true}
@@ -34,7 +34,7 @@ either false p q = q refl
 -- ---- a received packet
 
 module _ (W : Words) (s : StateOf W) (r : ReceiveArgs) (h : Header) where
-  -- what the page says of it, by the answers to its questions
+  -- what RULES 6 says of it, by the answers to its questions
   abbrev page : (a b o e u k d f : Bool) → OutcomeOf W
   page a b o e u k d f =
       let q : Questions = record { ownSender = a; broadcastSender = b; ownOriginator = o; echo = e; unidirectional = u; bidirectional = k; duplicate = d; fresh = f } in

@@ -1,4 +1,4 @@
--- The calls with all their arguments, what they lend among them, and the answers with all their fields.
+-- The calls with all their arguments, what they lend among them, and the answers with all their fields. (RULES 1.2)
 use Prim.Native.Nat.{ℕ, _+_, _*_, _/_, _%_}
 use mathlib.Core.Bool.{Bool}
 use mathlib.Core.List.{List, []}
@@ -14,7 +14,7 @@ use Rattle.rules.specs.Settings.{MakeArgs, interfaceMost, addresses, wit
 
 -- ---- links
 
--- a link is a pair of neighbour address and interface: one number, so that links rise by address, then interface
+-- a link is a pair of neighbour address and interface: one number, so that links rise by address, then interface (RULES 4.3)
 unfoldable pub linkOf : (neighbour interface : ℕ) → ℕ
 linkOf neighbour interface = neighbour * interfaceMost + interface
 
@@ -87,7 +87,7 @@ isRefusal n = within 1 refusalMost n
 abbrev pub isRuleRefusal : ℕ → Bool
 isRuleRefusal n = within 2 refusalMost n
 
--- "no route"
+-- "no route" (RULES 7.4)
 abbrev pub noRoute : Route
 noRoute = record { neighbour = 0; interface = 0; count = 0; window = 0 }
 
@@ -121,7 +121,7 @@ answeredWriting a o = record { answer = a; output = o; rows = [] }
 abbrev pub answeredFilling : Answer → (rows : List LinkRow) → Reply
 answeredFilling a rs = record { answer = a; output = []; rows = rs }
 
--- a refused call returns its number, every other answer field 0 but the place for 8, and writes nothing
+-- a refused call returns its number, every other answer field 0 but the place for 8, and writes nothing (RULES 8.1)
 unfoldable pub refusal : Call → Fault → Reply
 refusal (make a) f = answered (made (f .number))
 refusal (receive a) f = answeredWriting (received (receivedAs (f .number) (f .place) 0 noRoute)) (a .output)

@@ -1,4 +1,4 @@
--- The edges of the rules, each limit and one beyond it, as a table of rows like those of P1 to P12.
+-- The edges of the rules, each limit and one beyond it, as a table of rows like those of P1 to P12. (RULES 11.2)
 use Prim.Native.Nat.{ℕ, zero, suc, _+_, _-_, _*_}
 use mathlib.Core.Bool.{true, false}
 use mathlib.Core.List.{List, [], _∷_, _++_, map}

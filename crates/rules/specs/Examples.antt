@@ -1,4 +1,4 @@
--- Document 01, "Checked examples". A row asks a question and gives the answer that is due; one rule, `reply`, answers every question by the
+-- RULES 11, "Checked examples". A row asks a question and gives the answer that is due; one rule, `reply`, answers every question by the
 -- table's words and the calls. P1 to P12 are one table of such rows, the edges of the rules (`Edges`) another.
 use Prim.Native.Nat.{ℕ, _+_, _*_}
 use mathlib.Core.Bool.{Bool, true, false, cond}

@@ -1,4 +1,4 @@
--- What document 01 says of the calls in other words than their definitions: an own packet reads back, a copy keeps every octet except two, and
+-- What RULES 6 and 7 say of the calls in other words than their definitions: an own packet reads back, a copy keeps every octet except two, and
 -- other originators' records do not change. `proofs/Promises.antt` proves each of every call that is not refused.
 use Prim.Native.Nat.{ℕ, _+_}
 use mathlib.Core.Path.{_≡_}

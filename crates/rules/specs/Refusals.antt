@@ -1,4 +1,4 @@
--- Document 01, "Numbers for what is turned away" and "Receiving, in order", a second time, as the page's lists have them: for each call the facts
+-- RULES 8, "Refusals", and 6, "Receiving", a second time, as their tables have them: for each call the facts
 -- that concern it in ascending order, the verdicts in theirs, and flatly what a received packet leaves. The rules come to the same step by step.
 use Prim.Native.Nat.{ℕ, _+_}
 use mathlib.Core.Path.{_≡_}

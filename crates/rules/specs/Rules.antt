@@ -1,4 +1,4 @@
--- Document 01, "Receiving, in order", "The other calls" and "Numbers for what is turned away", said once.
+-- RULES 6, "Receiving", 7, "The other calls", and 8, "Refusals", said once.
 -- What the rules ask of a state (duplicate, best, count, neighbour row ..) is a record of words. The table and the book each read them their way.
 use Prim.Native.Nat.{ℕ, _+_, _-_, _%_}
 use mathlib.Core.Bool.{Bool, true, false, cond, _&&_, _||_, not}
@@ -26,7 +26,7 @@ use Rattle.rules.specs.Calls.{linkOf, neighbourOf, interfaceOf, noRoute,
 abbrev pub sequenceOf : Ogm → ℕ
 sequenceOf m = m .sequence % numbers
 
--- a link with count x does not stand higher than one with count y
+-- a link with count x does not stand higher than one with count y (RULES 6.5)
 unfoldable pub notHigher : Config → (x y : ℕ) → Bool
 notHigher κ x y = leb x y
 
@@ -41,7 +41,7 @@ hasSent ns i = hasKey i ns
 unfoldable pub lastSent : Config → Sends → ℕ → ℕ
 lastSent κ ns i = maybe (lookup i ns) (distance (interfaceAt κ i .first) 1) (λ n. n)
 
--- an own packet takes the first number, then one more each time modulo 65,536
+-- an own packet takes the first number, then one more each time modulo 65,536 (RULES 7.2)
 unfoldable pub nextNumber : Config → Sends → ℕ → ℕ
 nextNumber κ ns i = maybe (lookup i ns) (interfaceAt κ i .first) (λ n. (n + 1) % numbers)
 
@@ -49,7 +49,7 @@ nextNumber κ ns i = maybe (lookup i ns) (interfaceAt κ i .first) (λ n. (n + 1
 abbrev pub sendOn : Config → Sends → ℕ → Sends
 sendOn κ ns i = put i (nextNumber κ ns i) ns
 
--- what the rules ask of a table or a book
+-- what the rules ask of a table or a book (RULES 1.4)
 pub record Words : Type 1 where
   -- an originator's record
   pub Record : Type 0
@@ -102,7 +102,7 @@ unfoldable pub unless : {A : Type 0} → Option Fault → (Fault → A) → A �
 unless none refuse x = x
 unless (some f) refuse x = refuse f
 
--- ---- the refusals that rest on arguments, settings and time alone, in ascending order
+-- ---- the refusals that rest on arguments, settings and time alone, in ascending order (RULES 8.2, 8.3)
 
 -- 2, 3, 4 and, of the packet, 5, 6, 7, 8
 abbrev pub receiveFaults : Config → (now : ℕ) → ReceiveArgs → List (Option Fault)
@@ -143,7 +143,7 @@ singleHop r h = eqb (r .sender) (h .originator)
 abbrev pub message : ReceiveArgs → Header → Ogm
 message r h = record { link = linkBy r; sequence = h .sequence; ttl = h .ttl; time = r .time }
 
--- D is set, the originator is the receiving interface's address, that interface has sent, and the number equals its last sent number
+-- D is set, the originator is the receiving interface's address, that interface has sent, and the number equals its last sent number (RULES 6.2)
 abbrev pub echoTests : Config → Sends → ReceiveArgs → Header → List Bool
 echoTests κ ns r h =
     isD (h .flags)
@@ -155,13 +155,13 @@ echoTests κ ns r h =
 abbrev pub isEcho : Config → Sends → ReceiveArgs → Header → Bool
 isEcho κ ns r h = and (echoTests κ ns r h)
 
--- verdicts 25 and 26: only 26 writes, and only the packet's length; its answer carries the flags octet for the other interfaces
+-- verdicts 25 and 26: only 26 writes, and only the packet's length; its answer carries the flags octet for the other interfaces (RULES 6.7, 6.8)
 unfoldable pub conclude : ReceiveArgs → Header → (bidirectional passed : Bool) → Route → Reply
 conclude r h bidirectional true route =
     answeredWriting (received (receivedAs 26 0 (flagsElsewhere (h .flags)) route)) (writtenTo (passedOn (flagsHere (singleHop r h) bidirectional (h .flags)) (r .packet)) (r .output))
 conclude r h bidirectional false route = answeredWriting (received (receivedAs 25 0 0 route)) (r .output)
 
--- ---- the packet that own writes
+-- ---- the packet that own writes (RULES 7.2)
 
 -- the table's version, a flags octet of 0, the interface's own address as originator, and the given TTL and gateway fields
 abbrev pub ownHeader : Config → Sends → OwnArgs → Header
@@ -189,11 +189,11 @@ module _ (W : Words) where
   abbrev pub OutcomeOf : Type 0
   OutcomeOf = Outcome (W .Rows) (W .Record)
 
-  -- a fresh table has time 0, nothing sent, no neighbours and no originators
+  -- a fresh table has time 0, nothing sent, no neighbours and no originators (RULES 5.4)
   abbrev pub fresh : Config → StateOf
   fresh κ = record { config = κ; time = 0; sends = []; rows = W .noRows; records = [] }
 
-  -- a refused call changes nothing
+  -- a refused call changes nothing (RULES 8.1)
   abbrev pub refuse : Call → StateOf → Fault → OutcomeOf
   refuse c s f = record { reply = refusal c f; state = s }
 
@@ -207,7 +207,7 @@ module _ (W : Words) where
   abbrev pub withTime : StateOf → ℕ → StateOf
   withTime s t = withRecords s t (s .records)
 
-  -- ---- the best question and the list call, x being the originator's record, if one is held
+  -- ---- the best question and the list call, x being the originator's record, if one is held (RULES 7.4, 7.5)
 
   abbrev pub countOf : Config → W .Record → (link : ℕ) → ℕ
   countOf κ a l = maybe (lookup l (W .links κ a)) 0 (λ n. n)
@@ -241,9 +241,9 @@ module _ (W : Words) where
   fillRows s lent rs =
       record { reply = answeredFilling (listed (record { number = 0; filled = length rs })) (writtenTo rs lent); state = s }
 
-  -- ---- receiving
+  -- ---- receiving (RULES 6)
 
-  -- verdicts 20 to 24: nothing is written; the route is what the best question would then answer for the packet's originator
+  -- verdicts 20 to 24: nothing is written; the route is what the best question would then answer for the packet's originator (RULES 6.8)
   unfoldable pub verdict : ReceiveArgs → Header → ℕ → StateOf → OutcomeOf
   verdict r h v s = record { reply = answeredWriting (received (receivedAs v 0 0 (routeOf (s .config) (lookup (h .originator) (s .records))))) (r .output); state = s }
 
@@ -251,11 +251,11 @@ module _ (W : Words) where
   abbrev pub isBestBy : Config → ReceiveArgs → Option (W .Record) → Bool
   isBestBy κ r x = maybe x false (λ a. W .isBest κ a (linkBy r))
 
-  -- *passed on*; fresh is judged before counting, best after it
+  -- *passed on*; fresh is judged before counting, best after it (RULES 6.6)
   abbrev pub isPassedOn : Config → ReceiveArgs → Header → (bidirectional fresh : Bool) → Option (W .Record) → Bool
   isPassedOn κ r h bidirectional fresh x = leb ttlLeast (h .ttl) && (singleHop r h || (bidirectional && (isBestBy κ r x && fresh)))
 
-  -- the record a, after counting, takes its place; 11: more than 8 links would have marks or be best
+  -- the record a, after counting, takes its place; 11: more than 8 links would have marks or be best (RULES 6.4, 8.4)
   unfoldable pub storeCounted : StateOf → ReceiveArgs → Header → (fresh : Bool) → W .Record → OutcomeOf
   storeCounted s r h fresh a =
       unless (given (ltb linkMost (length (W .links (s .config) a))) 11)
@@ -265,7 +265,7 @@ module _ (W : Words) where
         state = withRecords s (r .time) (put (h .originator) a (s .records));
       })
 
-  -- the first counted OGM makes the record; 10: capacity is reached
+  -- the first counted OGM makes the record; 10: capacity is reached (RULES 6.4, 8.4)
   unfoldable pub counted : StateOf → ReceiveArgs → Header → (fresh : Bool) → Option (W .Record) → OutcomeOf
   counted s r h fresh none =
       unless (given (leb (s .config .settings .capacity) (length (s .records))) 10)
@@ -283,24 +283,24 @@ module _ (W : Words) where
   abbrev pub isDuplicate : Config → ReceiveArgs → Header → Option (W .Record) → Bool
   isDuplicate κ r h x = maybe x false (λ a. W .duplicate κ a (linkBy r) (sequenceOf (message r h)))
 
-  -- the OGM is no duplicate or has the record's last TTL
+  -- the OGM is no duplicate or has the record's last TTL (RULES 6.6)
   abbrev pub isFresh : Config → ReceiveArgs → Header → Option (W .Record) → Bool
   isFresh κ r h x = not (isDuplicate κ r h x) || maybe x false (λ a. eqb (h .ttl) (W .lastTtl a))
 
-  -- *counted*: the link has a neighbour row and the OGM is no duplicate
+  -- *counted*: the link has a neighbour row and the OGM is no duplicate (RULES 6.3)
   unfoldable pub decide : StateOf → ReceiveArgs → Header → (bidirectional : Bool) → Option (W .Record) → OutcomeOf
   decide s r h bidirectional x =
       let fresh = isFresh (s .config) r h x in
       branch (bidirectional && not (isDuplicate (s .config) r h x)) (counted s r h fresh x) (uncounted s r h bidirectional fresh x)
 
-  -- the neighbour row for sender and interface takes this number, made if absent: 22; 9: it needs a row and 32 are held
+  -- the neighbour row for sender and interface takes this number, made if absent: 22; 9: it needs a row and 32 are held (RULES 6.2, 8.4)
   unfoldable pub takeEcho : StateOf → ReceiveArgs → Header → OutcomeOf
   takeEcho s r h =
       unless (given (not (W .hasRow (s .config) (s .rows) (linkBy r)) && leb neighbourMost (W .rowsHeld (s .config) (s .rows))) 9)
       (refuse (receive r) s)
       (verdict r h 22 (withRows s (r .time) (s .sends) (W .echo (s .config) (s .sends) (linkBy r) (s .rows))))
 
-  -- "Receiving, in order": the first that applies
+  -- RULES 6.1: the first that applies
   unfoldable pub judge : StateOf → ReceiveArgs → Header → OutcomeOf
   judge s r h =
       branch (isOwn (s .config) (r .sender)) (verdict r h 20 (withTime s (r .time)))
@@ -312,7 +312,7 @@ module _ (W : Words) where
 
   -- ---- own packet and sweep
 
-  -- the packet p at the start of the output; its length and number; rows that are too far back are dropped
+  -- the packet p at the start of the output; its length and number; rows that are too far back are dropped (RULES 7.2)
   unfoldable pub send : StateOf → OwnArgs → (p : List ℕ) → OutcomeOf
   send s a p =
       let i = a .interface in
@@ -322,11 +322,11 @@ module _ (W : Words) where
         state = withRows s (a .time) ns (W .sent (s .config) ns i (s .rows));
       }
 
-  -- its time is more than the purge timeout ago
+  -- its time is more than the purge timeout ago (RULES 7.3)
   abbrev pub isExpired : Config → (now : ℕ) → W .Record → Bool
   isExpired κ now a = ltb (κ .settings .purge) (now - W .time a)
 
-  -- a sweep removes exactly these records and answers how many
+  -- a sweep removes exactly these records and answers how many (RULES 7.3)
   unfoldable pub purge : StateOf → ℕ → OutcomeOf
   purge s t =
       record {
@@ -336,7 +336,7 @@ module _ (W : Words) where
 
   -- ---- a call, on a table of so many cells
 
-  -- make answers 0 and leaves the fresh table
+  -- make answers 0 and leaves the fresh table (RULES 7.1)
   abbrev pub begin : MakeArgs → OutcomeOf
   begin a = record { reply = answered (made 0); state = fresh (configOf a) }
 

@@ -1,4 +1,4 @@
--- Document 01, "Settings and sizes": limits, settings, interface rows, and how many cells a table needs.
+-- RULES 2, "Settings and limits": limits, settings, interface rows, and how many cells a table needs.
 use Prim.Native.Nat.{ℕ, _+_, _*_, _≤_}
 use mathlib.Core.Path.{_≡_}
 use mathlib.Core.Bool.{Bool, true, _&&_, not}
@@ -42,7 +42,7 @@ linkMost = 8
 abbrev pub ttlLeast : ℕ
 ttlLeast = 2
 
--- ---- ranges of values: an octet, an address of four octets, a sequence number of two, a time of 64 bits
+-- ---- ranges of values: an octet, an address of four octets, a sequence number of two, a time of 64 bits (RULES 1.3)
 
 abbrev pub octets : ℕ
 octets = 256
@@ -65,7 +65,7 @@ isTime n = ltb n 18446744073709551616
 abbrev pub within : (low high n : ℕ) → Bool
 within low high n = leb low n && leb n high
 
--- ---- settings and interfaces
+-- ---- settings and interfaces (RULES 2.1, 2.2)
 
 abbrev pub defaults : Settings
 defaults = record { version = 4; window = 64; timeout = 32; purge = 640000; capacity = 64 }
@@ -144,7 +144,7 @@ pub record Bounded (p : Policy) : Type 0 where
   pub least : 1 ≤ p .window
   pub most : p .window ≤ windowMost
 
--- ---- cells, by the table's layout
+-- ---- cells, by the table's layout (RULES 2.4)
 
 -- one for each setting
 abbrev pub settingCells : ℕ
@@ -190,7 +190,7 @@ recordCells = recordHeadCells + linkAreaCells
 unfoldable pub cellsNeeded : (capacity : ℕ) → ℕ
 cellsNeeded capacity = tableHead + capacity * recordCells
 
--- what make asks, lent so many cells; 12 is given where one of it fails
+-- what make asks, lent so many cells; 12 is given where one of it fails (RULES 7.1)
 abbrev pub makeTests : (cells : ℕ) → MakeArgs → List Bool
 makeTests cells a =
     allowed (configOf a)

@@ -1,4 +1,4 @@
--- The table's words: a record with a word of marks for each held link, and a recorded number for each neighbour row.
+-- The table's words: a record with a word of marks for each held link, and a recorded number for each neighbour row. (RULES 5.1, 5.2)
 use Prim.Native.Nat.{ℕ}
 use mathlib.Core.Bool.{Bool, cond, _&&_, _||_, not}
 use mathlib.Core.List.{List, []}
@@ -25,7 +25,7 @@ pub record TableRecord : Type 0 where
 abbrev pub marksAt : List (ℕ × ℕ) → (link : ℕ) → ℕ
 marksAt ls l = maybe (lookup l ls) 0 (λ v. v)
 
--- no other link has a higher count than link l with the word v
+-- no other link has a higher count than link l with the word v (RULES 6.5)
 abbrev pub isHighest : Config → (l v : ℕ) → List (ℕ × ℕ) → Bool
 isHighest κ l v ls = all (λ (e : ℕ × ℕ). eqb (e .0) l || notHigher κ (count (e .1)) (count v)) ls
 
@@ -45,7 +45,7 @@ settle κ m v x =
 abbrev pub withLinks : List (ℕ × ℕ) → TableRecord → TableRecord
 withLinks ls x = record { current = x .current; time = x .time; lastTtl = x .lastTtl; best = x .best; links = ls }
 
--- the number is marked on its link
+-- the number is marked on its link (RULES 6.4)
 abbrev pub markOn : Config → Ogm → TableRecord → TableRecord
 markOn κ m x =
     let v = mark (marksAt (x .links) (m .link)) (distance (x .current) (sequenceOf m)) in
@@ -58,7 +58,7 @@ begun m = record { current = sequenceOf m; time = m .time; lastTtl = m .ttl; bes
 unfoldable pub firstRecord : Config → Ogm → TableRecord
 firstRecord κ m = markOn κ m (begun m)
 
--- c becomes current, and numbers no longer inside are forgotten on every link
+-- c becomes current, and numbers no longer inside are forgotten on every link (RULES 4.2)
 abbrev pub moveTo : Config → (c : ℕ) → TableRecord → TableRecord
 moveTo κ c x =
     record {
@@ -69,7 +69,7 @@ moveTo κ c x =
       links = mapValues (shift (κ .settings .window) (distance c (x .current))) (x .links);
     }
 
--- a new number moves the window
+-- a new number moves the window (RULES 4.2)
 unfoldable pub nextRecord : Config → Ogm → TableRecord → TableRecord
 nextRecord κ m x = markOn κ m (moveTo κ (advance (κ .settings .window) (x .current) (sequenceOf m)) x)
 
@@ -85,7 +85,7 @@ TableRows = List (ℕ × ℕ)
 unfoldable pub recordEcho : Config → Sends → (link : ℕ) → TableRows → TableRows
 recordEcho κ ns l rs = put l (lastSent κ ns (interfaceOf l)) rs
 
--- last sent number minus recorded number modulo 65,536
+-- last sent number minus recorded number modulo 65,536 (RULES 5.2)
 abbrev pub rowDistance : Config → Sends → ℕ × ℕ → ℕ
 rowDistance κ ns e = distance (lastSent κ ns (interfaceOf (e .0))) (e .1)
 

@@ -1,4 +1,4 @@
--- Document 01, "A well-formed table", clause by clause, of the table as the calls read it. (That the cells are as many as the capacity needs, and
+-- RULES 5.3, "Well-formed", clause by clause, of the table as the calls read it. (That the cells are as many as the capacity needs, and
 -- that unused cells are zero, belongs to the layout.)
 use Prim.Native.Nat.{ℕ, _^_}
 use mathlib.Core.Bool.{Bool, true, _||_, not}

@@ -1,4 +1,4 @@
-// Document 01, "Receiving, in order": the verdicts. include/batman.h has them by the same names for C.
+// RULES 6.1: the verdicts. include/batman.h has them by the same names for C.
 pub const OWN_SENDER: u64 = 20;
 
 pub const OWN_BROADCAST: u64 = 21;

@@ -1,4 +1,4 @@
--- The check's tests are document 01's, whatever their order. Assumes nothing.
+-- The check's tests are those of RULES 5.3, whatever their order. Assumes nothing.
 use mathlib.Core.Path.{_≡_, refl, sym, _∙_, subst}
 use mathlib.Core.List.{List}
 use mathlib.Core.Bool.{Bool, true, _&&_}

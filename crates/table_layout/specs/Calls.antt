@@ -35,7 +35,7 @@ makeOf (sweep t) = none
 makeOf (ask o) = none
 makeOf (list o rs) = none
 
--- what a call asks of the cells: make, only that they are as many as it needs; every other, that they are a well-formed table's
+-- what a call asks of the cells: make, only that they are as many as it needs; every other, that they are a well-formed table's (RULES 8.2)
 abbrev pub asks : List ℕ → Call → Bool
 asks c call = maybe (makeOf call) (wellFormed c) (λ a. makeAllowed (length c) a)
 
@@ -46,7 +46,7 @@ unasked call = maybe (makeOf call) 1 (λ a. 12)
 unfoldable pub callOn : List ℕ → Call → Done
 callOn c call = branch (asks c call) (stepped c call) (refused c call (unasked call))
 
--- ---- what a call promises, whatever it is lent
+-- ---- what a call promises, whatever it is lent (RULES 13.1)
 
 -- lent the cells c, the call gives the rules' reply (its answer, and output and rows as it leaves them), and leaves the cells as they say
 pub record Performed (c : List ℕ) (call : Call) (reply : Reply) (cells : List ℕ) : Type 0 where

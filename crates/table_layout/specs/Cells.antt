@@ -62,7 +62,7 @@ recordsIn c = map decodeRecord (rowsOf recordCells (getD c recordsAt 0) (recordP
 unfoldable pub decode : List ℕ → TableState
 decode c = record { config = configIn c; time = getD c timeAt 0; sends = sendsIn c; rows = rowsIn c; records = recordsIn c }
 
--- ---- document 01, "A well-formed table"
+-- ---- RULES 5.3, "Well-formed"
 
 -- each part beyond the rows that it holds
 abbrev pub unusedInterfaces : List ℕ → List ℕ

@@ -1,4 +1,4 @@
--- Where a table's values stand in its cells. docs/LAYOUT.md says the same.
+-- Where a table's values stand in its cells. docs/LAYOUT.md says the same. (RULES 2.4)
 use mathlib.Core.List.{List}
 use Prim.Native.Nat.{ℕ, _+_, _*_}
 use lib.ListN.{take, drop}

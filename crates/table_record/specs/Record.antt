@@ -71,7 +71,7 @@ decodeRecord row = (
 abbrev pub unusedLinks : List ℕ → List ℕ
 unusedLinks row = drop (getD row linksAt 0 * linkCells) (linksPart row)
 
--- the cells of a record by document 01, "A well-formed table", at the table's time
+-- the cells of a record by RULES 5.3, "Well-formed", at the table's time
 unfoldable pub recordOk : Config → (now : ℕ) → List ℕ → Bool
 recordOk κ now row = and (recordTests κ now (decodeRecord row)) && allZero (unusedLinks row)
 

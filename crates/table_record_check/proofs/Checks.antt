@@ -1,4 +1,4 @@
--- The check of a record is document 01's tests of it. Assumes nothing.
+-- The check of a record is the tests of RULES 5.3 on it. Assumes nothing.
 use mathlib.Core.Path.{_≡_, refl, sym, ap, _∙_}
 use mathlib.Core.List.{List, _∷_}
 use mathlib.Core.Bool.{Bool, true, false, false≢true, cond, _&&_, _||_, not, and-true, and-assoc, or-assoc, or-false}

@@ -1,2 +1,2 @@
--- The check of a record is document 01's tests of it.
+-- The check of a record is the tests of RULES 5.3 on it.
 pub mod Checks

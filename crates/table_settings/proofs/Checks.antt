@@ -1,4 +1,4 @@
--- The tests of the head and of the interface rows are document 01's, whatever their order. Assumes nothing.
+-- The tests of the head and of the interface rows are those of RULES 5.3, whatever their order. Assumes nothing.
 use mathlib.Core.Path.{_≡_, refl, sym, ap, _∙_}
 use mathlib.Core.List.{List}
 use mathlib.Core.Bool.{Bool, true, false, cond, _&&_, _||_}

@@ -1,4 +1,4 @@
--- The tests of the head and of the interface rows, in the order in which the check makes them. They are document 01's, see `wellFormed`.
+-- The tests of the head and of the interface rows, in the order in which the check makes them. They are those of RULES 5.3, see `wellFormed`.
 use mathlib.Core.List.{List, [], _∷_}
 use mathlib.Core.Bool.{Bool, _&&_, _||_}
 use Prim.Native.Nat.{ℕ}

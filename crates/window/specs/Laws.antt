@@ -40,6 +40,6 @@ pub record WordLaws (W : ℕ) : Type 0 where
   pub mark-word : (f : ℕ → Bool) (j : ℕ) → j < W → mark (word W f) j ≡ word W (λ k. eqb k j || f k)
   pub count-word : (f : ℕ → Bool) → count (word W f) ≡ tally W f
 
--- two words of N bits are one number of more bits, so that every law above holds of them at its W (wish 11: W to 128 in two words of 64)
+-- two words of N bits are one number of more bits, so that every law above holds of them at its W (two words of 64 bits for a W up to 128)
 abbrev pub TwoWords : Type 0
 TwoWords = (N hi lo k : ℕ) → lo < 2 ^ N → bit (hi * 2 ^ N + lo) k ≡ cond (ltb k N) (bit lo k) (bit hi (k - N))

@@ -1,4 +1,4 @@
--- Document 01, "Sequence numbers".
+-- RULES 4, "Sequence numbers".
 pub mod Window
 pub mod Laws
 pub mod Marks

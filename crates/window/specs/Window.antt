@@ -1,4 +1,4 @@
--- Document 01, "Sequence numbers": arithmetic modulo 65,536, the window of W numbers below the current one, and a link's marks as a word.
+-- RULES 4, "Sequence numbers": arithmetic modulo 65,536, the window of W numbers below the current one, and a link's marks as a word.
 -- Bit k of the word is the mark of the number that lies k below current. Everything is on natural numbers and for any W, so that one word
 -- of 64 bits and two words as hi * 2 ^ 64 + lo are the same thing: a number below 2 ^ W.
 use Prim.Native.Nat.{ℕ, zero, suc, _+_, _-_, _*_, _/_, _%_, _^_}
@@ -12,19 +12,19 @@ use lib.Count.{ones}
 abbrev pub numbers : ℕ
 numbers = 65536
 
--- c minus n modulo 65,536: how far n lies below c; so it is also the number that lies n below c
+-- c minus n modulo 65,536: how far n lies below c; so it is also the number that lies n below c (RULES 4.1)
 unfoldable pub distance : (c n : ℕ) → ℕ
 distance c n = (c + numbers - n) % numbers
 
--- n is inside the window whose current number is c: it is c or one of the W - 1 numbers below
+-- n is inside the window whose current number is c: it is c or one of the W - 1 numbers below (RULES 4.2)
 unfoldable pub inside : (W c n : ℕ) → Bool
 inside W c n = ltb (distance c n) W
 
--- the current number once n is counted: a number outside the window is new and becomes current
+-- the current number once n is counted: a number outside the window is new and becomes current (RULES 4.2)
 unfoldable pub advance : (W c n : ℕ) → ℕ
 advance W c n = cond (inside W c n) c n
 
--- ---- words of marks
+-- ---- words of marks (RULES 4.3)
 
 -- bit k of the word v is set
 unfoldable pub bit : (v k : ℕ) → Bool

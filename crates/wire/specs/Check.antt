@@ -1,4 +1,4 @@
--- Document 01, "Numbers for what is turned away": refusals 5, 6, 7 and 8, which rest on the octets of a packet and a version.
+-- RULES 8.2 and 3.6: refusals 5, 6, 7 and 8, which rest on the octets of a packet and a version, and the packet check.
 use Prim.Native.Nat.{ℕ, zero, suc, _+_, _*_, _/_, _%_}
 use mathlib.Core.Bool.{Bool, cond, _||_, not}
 use mathlib.Core.Option.{Option, none, some}
@@ -84,6 +84,6 @@ packetFault v p = firstOf (packetFaults v p)
 unfoldable pub writtenFault : List ℕ → Option Fault
 writtenFault e = firstOf (sizeFault (headerSize + length e) ∷ hnaFault e ∷ [])
 
--- the packet check's answer on plain numbers: 0 for a packet without fault, else the number and 256 times the place
+-- the packet check's answer on plain numbers: 0 for a packet without fault, else the number and 256 times the place (RULES 3.6)
 unfoldable pub packetCheck : (version : ℕ) → List ℕ → ℕ
 packetCheck v p = maybe (packetFault v p) 0 (λ f. f .number + 256 * f .place)

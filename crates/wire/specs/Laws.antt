@@ -1,4 +1,4 @@
--- What document 01 says of written octets in other words than the definitions; `proofs/Laws.antt` proves each.
+-- What RULES 6.7 and 7.2 say of written octets in other words than the definitions; `proofs/Laws.antt` proves each.
 use Prim.Native.Nat.{ℕ, _+_, _-_, _*_, _<_, _≤_}
 use mathlib.Core.Path.{_≡_}
 use mathlib.Core.Bool.{Bool, false, not}

@@ -1,4 +1,4 @@
--- Document 01, "Octets on the air": sizes and places. A packet is the list of its octets.
+-- RULES 3, "Octets on the air": sizes and places. A packet is the list of its octets.
 use Prim.Native.Nat.{ℕ}
 
 -- an originator message (OGM), with which a packet begins

@@ -1,4 +1,4 @@
--- Document 01, "Octets on the air", and what it says elsewhere of written octets.
+-- RULES 3, "Octets on the air", and what the rules say elsewhere of written octets.
 pub mod Layout
 pub mod Packet
 pub mod Check

@@ -1,4 +1,4 @@
--- Document 01, "Octets on the air": a packet's fields and its octets, high octet first.
+-- RULES 3, "Octets on the air": a packet's fields and its octets, high octet first.
 use Prim.Native.Nat.{ℕ, _+_, _*_, _/_, _%_}
 use mathlib.Core.Bool.{Bool}
 use mathlib.Core.List.{List, [], _∷_, _++_}
@@ -53,7 +53,7 @@ headerOctets h =
 unfoldable pub packetOf : Header → List ℕ → List ℕ
 packetOf h e = headerOctets h ++ e
 
--- ---- the flags octet: 128 is U (unidirectional), 64 is D (direct link); the six others are unnamed
+-- ---- the flags octet: 128 is U (unidirectional), 64 is D (direct link); the six others are unnamed (RULES 3.3)
 
 unfoldable pub isU : ℕ → Bool
 isU flags = eqb (flags / 128 % 2) 1

@@ -1,4 +1,4 @@
--- Document 01, "Receiving, in order": the octets of a passed-on packet.
+-- RULES 6.7, "The copy": the octets of a passed-on packet.
 use Prim.Native.Nat.{ℕ, _+_, _-_}
 use mathlib.Core.Bool.{Bool, cond}
 use mathlib.Core.List.{List}

@@ -1,4 +1,4 @@
-// Document 01, "Numbers for what is turned away". include/batman.h has them by the same names for C.
+// RULES 8.2: the refusals. include/batman.h has them by the same names for C.
 pub const NOT_WELL_FORMED: u64 = 1;
 
 pub const NOT_IN_USE: u64 = 2;
