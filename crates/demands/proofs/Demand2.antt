@@ -8,8 +8,8 @@ use mathlib.Core.List.{List}
 use lib.Dec.{ltb, eqb}
 use lib.ListN.{length}
 use native.Mathlib.Omega.{arith}
-use borrow.Author.Tests.{ltb-true, eqb-true, ne-eqb, not-false}
-use Rattle.lists.specs.Lists.{maybe}
+use borrow.Author.Tests.{ltb-true, eqb-true, eq-eqb, ne-eqb, not-false}
+use Rattle.lists.specs.Lists.{maybe, writtenTo}
 use Rattle.lists.specs.Keyed.{lookup, put}
 use Rattle.lists.proofs.Tests.{by-test, and-right, and-at}
 use Rattle.lists.proofs.Lists.{keep-same}
@@ -25,7 +25,7 @@ use Rattle.rules.specs.Settings.{Config, tableHead, recordCells, isInUse}
 use Rattle.rules.specs.Calls.{interfaceOf, ReceiveArgs, OwnArgs, Call, receive, own, ask, received, receivedAs, numberOf, isRefusal}
 use Rattle.rules.specs.Rules.{OutcomeOf, Sends, lastSent, sendOn, linkBy, echoTests, ownPacket, routeOf, answerBest, send, step}
 use Rattle.rules.specs.Table.{TableState, TableRows, recordEcho, rowDistance, dropOld, table}
-use Rattle.rules.specs.Refusals.{Questions, questions, countedRecord, foreign, wouldEcho, wouldPass, verdictThen, taken, facts, outcome}
+use Rattle.rules.specs.Refusals.{Questions, questions, countedRecord, foreign, wouldEcho, wouldPass, verdictThen, copy, taken, facts, outcome}
 use Rattle.rules.specs.WellFormed as R
 use Rattle.rules.specs.Promises.{ReceiveWritten, OwnWritten}
 use Rattle.rules.proofs.Config.{interfaces-high}
@@ -113,6 +113,7 @@ module _ (n : ℕ) (s : TableState) (w : R.wellFormed s ≡ true) (r : ReceiveAr
       record {
         whole = refl;
         verdict = refl;
+        copied = λ e. ap (λ (t : Bool). cond t (writtenTo (copy table s r h q) (r .output)) (r .output)) (eq-eqb (verdictThen table s r h q) 26 e);
         passed = written .passed;
         other = written .other;
         config = refl;

@@ -7,14 +7,15 @@ use mathlib.Core.Option.{some}
 use mathlib.Core.List.{List}
 use lib.Dec.{ltb, eqb}
 use lib.ListN.{length}
-use Rattle.lists.specs.Lists.{keep}
-use Rattle.lists.specs.Keyed.{lookup}
+use Rattle.lists.specs.Lists.{keep, writtenTo}
+use Rattle.lists.specs.Keyed.{lookup, hasKey}
 use Rattle.window.specs.Window.{distance}
 use Rattle.wire.specs.declared.Header.{Header}
 use Rattle.wire.specs.Packet.{header}
+use Rattle.wire.specs.PassOn.{flagsHere, passedOn}
 use Rattle.rules.specs.declared.Route.{Route}
 use Rattle.rules.specs.Calls.{interfaceOf, ReceiveArgs, OwnArgs, Call, receive, own, ask, received, asked, receivedAs, numberOf, isRefusal, answered}
-use Rattle.rules.specs.Rules.{OutcomeOf, linkBy, nextNumber, ownPacket, send}
+use Rattle.rules.specs.Rules.{OutcomeOf, linkBy, singleHop, nextNumber, ownPacket, send}
 use Rattle.rules.specs.Table.{TableState, table}
 use Rattle.rules.specs.Refusals.{Questions, questions, countedRecord, wouldCount, verdictThen, taken}
 use Rattle.rules.specs.WellFormed.{typed}
@@ -35,6 +36,10 @@ module _ (s : TableState) (r : ReceiveArgs) (o : OutcomeOf table) where
   abbrev pub isCountedNow : Bool
   isCountedNow = wouldCount table s r said questionsOf
 
+  -- the copy's flags octet: D if sender equals originator, U if the link has no neighbour row, and the packet's unnamed bits
+  abbrev pub flagsNow : ℕ
+  flagsNow = flagsHere (singleHop r said) (hasKey (linkBy r) (s .rows)) (said .flags)
+
   abbrev pub verdictGiven : ℕ
   verdictGiven = numberOf (o .reply .answer)
 
@@ -43,7 +48,9 @@ module _ (s : TableState) (r : ReceiveArgs) (o : OutcomeOf table) where
     pub whole : o ≡ taken table s r said questionsOf
     -- the verdict is the first that applies
     pub verdict : verdictGiven ≡ verdictThen table s r said questionsOf
-    -- 26: the copy, in which flags and TTL alone differ from the packet, is at the output's start, and the rest of the output untouched
+    -- 26: at the output's start is the copy, which has its own flags octet and TTL one less, and the rest of the output is untouched
+    pub copied : verdictGiven ≡ 26 → o .reply .output ≡ writtenTo (passedOn flagsNow (r .packet)) (r .output)
+    -- in other words: every other octet is the packet's, and the flags octet has just the bits that the rules say
     pub passed : verdictGiven ≡ 26 → PassedOn table s r o
     -- every other verdict: the output is as it was
     pub other : (verdictGiven ≡ 26 → ⊥) → o .reply .output ≡ r .output
@@ -96,7 +103,7 @@ seen c call = record { reply = callOn c call .reply; state = decode (callOn c ca
 abbrev pub numberOn : List ℕ → Call → ℕ
 numberOn c call = numberOf (callOn c call .reply .answer)
 
--- not refused, and with arguments in the ranges of their types, as each public call's contract promises
+-- not refused (so c is a well-formed table's, by demand 1), and with arguments in the ranges of their types, as each public call's contract promises
 pub record NotRefused (c : List ℕ) (call : Call) : Type 0 where
   pub typed : typed call ≡ true
   pub number : isRefusal (numberOn c call) ≡ false
