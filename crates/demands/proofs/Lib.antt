@@ -1,2 +1,4 @@
--- Demand 3's proof, of the cells.
+-- The three demands' proofs, of the cells.
+pub mod Demand1
+pub mod Demand2
 pub mod Demand3

@@ -1,2 +1,4 @@
--- Demand 3, of the cells that the public calls are lent.
+-- The three demands, of the cells that the public calls are lent.
+pub mod Demand1
+pub mod Demand2
 pub mod Demand3

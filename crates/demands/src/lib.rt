@@ -1,1 +1,1 @@
-// Demand 3 over the cells: a definition and its theorem. There is no code here.
+// The three demands over the cells: definitions and their theorems. There is no code here.
