@@ -12,7 +12,7 @@ use native.Mathlib.Omega.{arith}
 use native.Mathlib.Nat.{mod-eq-of-lt}
 use borrow.Author.Tests.{ltb-true, eqb-true, eqb-false, ne-eqb, not-true}
 use Rattle.lists.specs.Lists.{maybe, and}
-use Rattle.lists.specs.Keyed.{lookup, hasKey}
+use Rattle.lists.specs.Keyed.{lookup}
 use Rattle.lists.proofs.Tests.{by-test, and-left, and-right, and-at, all-at}
 use Rattle.lists.proofs.Keyed.{lookup-put, lookup-put-other, lookup-all}
 use Rattle.lists.proofs.Rising.{rising-in}
@@ -25,19 +25,20 @@ use Rattle.wire.specs.Check.{firstOf}
 use Rattle.rules.specs.Settings.{Config, octets, isOctet}
 use Rattle.rules.specs.declared.Ogm.{Ogm}
 use Rattle.rules.specs.Calls.{ReceiveArgs, receive, numberOf, isRefusal}
-use Rattle.rules.specs.Rules.{OutcomeOf, linkBy, message, isEcho, unless, refuse, withTime, step}
+use Rattle.rules.specs.Rules.{OutcomeOf, linkBy, message, withTime, step}
 use Rattle.rules.specs.Table.{TableRecord, TableState, firstRecord, nextRecord, isMarked, recordEcho, table}
-use Rattle.rules.specs.Refusals.{Questions, found, questions, countedRecord, foreign, wouldEcho, wouldCount, stateThen, verdictThen, facts, outcome}
+use Rattle.rules.specs.Refusals.{Questions, found, questions, countedRecord, foreign, wouldEcho, wouldCount, stateThen, verdictThen, facts, outcome, Exactly}
 use Rattle.rules.specs.WellFormed.{recordTests, receiveTypes, typed}
-use Rattle.rules.proofs.Exactly.{flat, exactly}
+use Rattle.rules.specs.WellFormed as R
+use Rattle.rules.proofs.Exactly.{exactly}
 use Rattle.rules.proofs.Parts.{Entry, record-parts}
 use Rattle.rules.proofs.WellFormed.{Wf, parts, wellFormed-step}
 use Rattle.table_layout.specs.Layout.{timeAt}
 use Rattle.table_layout.specs.Cells.{encode, decode, wellFormed}
-use Rattle.table_layout.specs.Calls.{Done, refused, stepped}
+use Rattle.table_layout.specs.Calls.{Done, refused}
 use Rattle.table_layout.proofs.Encoding.{laws}
 use Rattle.table_layout.proofs.Calls.{goes-on, turned-away}
-use Rattle.demands.specs.Strangers.{said, done, number, left, Strangers}
+use Rattle.demands.specs.Strangers.{isMarkedIn, said, done, number, left, Strangers}
 use Rattle.demands.proofs.Marks.{Own, first-marks, next-marks}
 
 -- ---- of a table
@@ -45,36 +46,7 @@ use Rattle.demands.proofs.Marks.{Own, first-marks, next-marks}
 abbrev markedOf : TableState → (o l n : ℕ) → Bool
 markedOf s o l n = maybe (lookup o (s .records)) false (λ x. isMarked (s .config) x l n)
 
--- a packet on the table s is answered v and leaves x
-record Leaves (r : ReceiveArgs) (s : TableState) (v : ℕ) (x : TableState) : Type 0 where
-  turnedAway : isRefusal v ≡ true → x ≡ s
-  config : x .config ≡ s .config
-  sends : x .sends ≡ s .sends
-  noEcho : isEcho (s .config) (s .sends) r (said r) ≡ false → x .rows ≡ s .rows
-  otherVerdict : (v ≡ 22 → ⊥) → x .rows ≡ s .rows
-  otherRows : (l : ℕ) → (l ≡ linkBy r → ⊥) → lookup l (x .rows) ≡ lookup l (s .rows)
-  unheard : hasKey (linkBy r) (s .rows) ≡ false → x .records ≡ s .records
-  repeated : markedOf s (said r .originator) (linkBy r) (said r .sequence) ≡ true → x ≡ withTime table s (x .time)
-  others : (o : ℕ) → (o ≡ said r .originator → ⊥) → lookup o (x .records) ≡ lookup o (s .records)
-  marks : (o l n : ℕ) → n < numbers → ((o ≡ said r .originator) × (l ≡ linkBy r) × (n ≡ said r .sequence) → ⊥) → markedOf x o l n ≡ true → markedOf s o l n ≡ true
-
--- refused, whatever the number: everything stays
-unchanged : (r : ReceiveArgs) (s : TableState) (v : ℕ) → Leaves r s v s
-unchanged r s v =
-    record {
-      turnedAway = λ _. refl;
-      config = refl;
-      sends = refl;
-      noEcho = λ _. refl;
-      otherVerdict = λ _. refl;
-      otherRows = λ l _. refl;
-      unheard = λ _. refl;
-      repeated = λ _. refl;
-      others = λ o _. refl;
-      marks = λ o l n _ _ m. m;
-    }
-
--- not refused
+-- a packet that is not refused: it leaves x
 module _ (s : TableState) (w : Wf s) (r : ReceiveArgs) (t : typed (receive r) ≡ true) where
   abbrev h : Header
   h = header (r .packet)
@@ -127,6 +99,10 @@ module _ (s : TableState) (w : Wf s) (r : ReceiveArgs) (t : typed (receive r) �
 
   rows-same : (wouldEcho table s r h q ≡ true → ⊥) → x .rows ≡ s .rows
   rows-same f = by-test (λ y. y ≡ s .rows) (wouldEcho table s r h q) (λ e. absurd (f e)) (λ _. refl)
+
+  rows-others : (l : ℕ) → (l ≡ linkBy r → ⊥) → lookup l (x .rows) ≡ lookup l (s .rows)
+  unfolding recordEcho
+  rows-others l f = by-test (λ y. lookup l y ≡ lookup l (s .rows)) (wouldEcho table s r h q) (λ _. lookup-put-other l (linkBy r) _ (s .rows) (ne-eqb l (linkBy r) f)) (λ _. refl)
 
   records-same : (wouldCount table s r h q ≡ true → ⊥) → x .records ≡ s .records
   records-same f = by-test (λ y. y ≡ s .records) (wouldCount table s r h q) (λ e. absurd (f e)) (λ _. refl)
@@ -181,35 +157,6 @@ module _ (s : TableState) (w : Wf s) (r : ReceiveArgs) (t : typed (receive r) �
           ap (λ k. markedOf s k l n) same ∙ its-marks l n hn (λ y. f (same, y .0, y .1)) (ap (λ k. markedOf x k l n) (sym same) ∙ g)
       go false e = ap (λ (y : Option TableRecord). maybe y false (λ a. isMarked κ a l n)) (sym (others-same o (eqb-false o (h .originator) e))) ∙ g
 
-  -- ---- together
-
-  leaves-then : (cells : ℕ) → Leaves r s (numberOf (outcome table cells s (receive r) .reply .answer)) (outcome table cells s (receive r) .state)
-  unfolding outcome recordEcho
-  leaves-then cells =
-      record {
-        turnedAway = λ e. absurd (true≢false (sym e ∙ exactly table cells s (receive r) .noRefusal));
-        config = refl;
-        sends = refl;
-        noEcho = λ e. rows-same (λ y. true≢false (sym (echo-is y) ∙ e));
-        otherVerdict = λ f. rows-same (λ y. f (echo-verdict y));
-        otherRows = λ l f. by-test (λ y. lookup l y ≡ lookup l (s .rows)) (wouldEcho table s r h q) (λ _. lookup-put-other l (linkBy r) _ (s .rows) (ne-eqb l (linkBy r) f)) (λ _. refl);
-        unheard = λ e. records-same (λ y. true≢false (sym (and-left (q .bidirectional) (not (q .duplicate)) (count-new y)) ∙ e));
-        repeated = only-time;
-        others = others-same;
-        marks = marks-before;
-      }
-
-  leaves-step : (cells : ℕ) → Leaves r s (numberOf (step table cells s (receive r) .reply .answer)) (step table cells s (receive r) .state)
-  unfolding unless
-  leaves-step cells = subst Left (sym (flat table cells s (receive r))) (go (firstOf (facts table cells s (receive r))))
-    where
-      Left : OutcomeOf table → Type 0
-      Left o = Leaves r s (numberOf (o .reply .answer)) (o .state)
-
-      go : (f : Option Fault) → Left (unless f (refuse table (receive r) s) (outcome table cells s (receive r)))
-      go none = leaves-then cells
-      go (some f) = unchanged r s _
-
 -- ---- of cells
 
 time-set : (s : TableState) (u : ℕ) → encode (withTime table s u) ≡ set (encode s) timeAt u
@@ -217,55 +164,82 @@ unfolding encode
 time-set s u = refl
 
 module _ (c : List ℕ) (r : ReceiveArgs) where
-  abbrev before : TableState
-  before = decode c
-
-  together : (x : TableState) → Leaves r before (number c r) x → decode (left c r) ≡ x
-      → (wellFormed c ≡ false → done c r ≡ refused c (receive r) 1) → (x ≡ before → left c r ≡ c)
-      → ((u : ℕ) → x ≡ withTime table before u → (k : ℕ) × (left c r ≡ set c timeAt k)) → Strangers c r
-  unfolding decode
-  together x p e one away time =
-      let o = subst (Leaves r before (number c r)) (sym e) p in
+  -- no cell is changed
+  unchanged : (wellFormed c ≡ false → done c r ≡ refused c (receive r) 1) → left c r ≡ c → Strangers c r
+  unchanged one same =
       record {
         unformed = one;
-        turnedAway = λ g. away (p .turnedAway g);
-        config = o .config;
-        sends = o .sends;
-        noEcho = o .noEcho;
-        otherVerdict = o .otherVerdict;
-        otherRows = o .otherRows;
-        unheard = o .unheard;
-        repeated = λ g. time (x .time) (p .repeated g);
-        others = o .others;
-        marks = o .marks;
+        turnedAway = λ _. same;
+        config = rw same;
+        sends = rw same;
+        noEcho = λ _. rw same;
+        otherVerdict = λ _. rw same;
+        otherRows = λ l _. rw same;
+        unheard = λ _. rw same;
+        repeated = λ _. (getD c timeAt 0, same ∙ sym (set-getD c timeAt 0));
+        others = λ o _. rw same;
+        marks = λ o l n _ _ g. ap (λ (d : List ℕ). isMarkedIn d o l n) (sym same) ∙ g;
       }
 
-  -- a table's cells with another time
-  timed : wellFormed c ≡ true → (u : ℕ) → encode (withTime table before u) ≡ set c timeAt u
-  timed w u = time-set before u ∙ ap (λ (y : List ℕ). set y timeAt u) (laws .cells c w)
-
-  formed : typed (receive r) ≡ true → wellFormed c ≡ true → Strangers c r
-  formed t w =
-      let s = before in
-      let x = step table (length c) s (receive r) .state in
-      let on : done c r ≡ stepped c (receive r) = goes-on c (receive r) w in
-      let into : left c r ≡ encode x = ap (λ (d : Done). d .cells) on in
-      together x (subst (λ v. Leaves r s v x) (sym (ap (λ (d : Done). numberOf (d .reply .answer)) on)) (leaves-step s (parts s (laws .table c w)) r t (length c)))
-      (ap decode into ∙ laws .decoded x (wellFormed-step (length c) s (laws .table c w) (receive r) t))
-      (λ e. absurd (true≢false (sym w ∙ e)))
-      (λ e. into ∙ ap encode e ∙ laws .cells c w)
-      (λ u e. (u, into ∙ ap encode e ∙ timed w u))
-
   unformed : wellFormed c ≡ false → Strangers c r
-  unformed e =
-      let off : done c r ≡ refused c (receive r) 1 = turned-away c (receive r) e in
-      let same : left c r ≡ c = ap (λ (d : Done). d .cells) off in
-      together before (unchanged r before (number c r)) (ap decode same) (λ _. off) (λ _. same) (λ u _. (getD c timeAt 0, same ∙ sym (set-getD c timeAt 0)))
+  unformed e = let off = turned-away c (receive r) e in unchanged (λ _. off) (ap (λ (d : Done). d .cells) off)
+
+  module _ (t : typed (receive r) ≡ true) (good : wellFormed c ≡ true) where
+    abbrev before : TableState
+    before = decode c
+
+    abbrev rules : Exactly table (length c) before (receive r)
+    rules = exactly table (length c) before (receive r)
+
+    w : Wf before
+    w = parts before (laws .table c good)
+
+    not-one : wellFormed c ≡ false → done c r ≡ refused c (receive r) 1
+    not-one e = absurd (true≢false (sym good ∙ e))
+
+    -- the call goes by the rules to the outcome o
+    goes : (o : OutcomeOf table) → step table (length c) before (receive r) ≡ o → done c r ≡ record { reply = o .reply; cells = encode (o .state) }
+    goes o e = goes-on c (receive r) good ∙ ap (λ (y : OutcomeOf table). record { reply = y .reply; cells = encode (y .state) }) e
+
+    refuses : (f : Fault) → firstOf (facts table (length c) before (receive r)) ≡ some f → Strangers c r
+    refuses f e = unchanged not-one (ap (λ (d : Done). d .cells) (goes _ (rules .refused f e)) ∙ laws .cells c good)
+
+    takes : firstOf (facts table (length c) before (receive r)) ≡ none → Strangers c r
+    unfolding decode outcome
+    takes n =
+        let q = questions table before r (said r) in
+        let y = stateThen table before r (said r) q in
+        let on = goes (outcome table (length c) before (receive r)) (rules .accepted n) in
+        let into : left c r ≡ encode y = ap (λ (d : Done). d .cells) on in
+        let formed = subst (λ (o : OutcomeOf table). R.wellFormed (o .state) ≡ true) (rules .accepted n) (wellFormed-step (length c) before (laws .table c good) (receive r) t) in
+        let e : decode (left c r) ≡ y = ap decode into ∙ laws .decoded y formed in
+        let v : number c r ≡ verdictThen table before r (said r) q = ap (λ (d : Done). numberOf (d .reply .answer)) on in
+        let rows : (wouldEcho table before r (said r) q ≡ true → ⊥) → decode (left c r) .rows ≡ before .rows = λ f. ap (λ (z : TableState). z .rows) e ∙ rows-same before w r t f in
+        record {
+          unformed = not-one;
+          turnedAway = λ g. absurd (true≢false (sym g ∙ ap isRefusal v ∙ rules .noRefusal));
+          config = ap (λ (z : TableState). z .config) e;
+          sends = ap (λ (z : TableState). z .sends) e;
+          noEcho = λ g. rows (λ k. true≢false (sym (echo-is before w r t k) ∙ g));
+          otherVerdict = λ f. rows (λ k. f (v ∙ echo-verdict before w r t k));
+          otherRows = λ l f. ap (λ (z : TableState). lookup l (z .rows)) e ∙ rows-others before w r t l f;
+          unheard = λ g. ap (λ (z : TableState). z .records) e ∙ records-same before w r t (λ k. true≢false (sym (and-left (q .bidirectional) (not (q .duplicate)) (count-new before w r t k)) ∙ g));
+          repeated = λ g. (r .time, into ∙ ap encode (only-time before w r t g) ∙ time-set before (r .time) ∙ ap (λ (d : List ℕ). set d timeAt (r .time)) (laws .cells c good));
+          others = λ o f. ap (λ (z : TableState). lookup o (z .records)) e ∙ others-same before w r t o f;
+          marks = λ o l m small f g. marks-before before w r t o l m small f (ap (λ (z : TableState). markedOf z o l m) (sym e) ∙ g);
+        }
+
+    formed : Strangers c r
+    formed = go (firstOf (facts table (length c) before (receive r))) refl
+      where
+        go : (f : Option Fault) → firstOf (facts table (length c) before (receive r)) ≡ f → Strangers c r
+        go none e = takes e
+        go (some f) e = refuses f e
 
 -- WHAT A STRANGER CAN DO
 pub strangers : (c : List ℕ) (r : ReceiveArgs) → typed (receive r) ≡ true → Strangers c r
 strangers c r t = go (wellFormed c) refl
   where
     go : (b : Bool) → wellFormed c ≡ b → Strangers c r
-    go true w = formed c r t w
+    go true e = formed c r t e
     go false e = unformed c r e
