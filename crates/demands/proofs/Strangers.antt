@@ -38,7 +38,7 @@ use Rattle.table_layout.specs.Cells.{encode, decode, wellFormed}
 use Rattle.table_layout.specs.Calls.{Done, refused}
 use Rattle.table_layout.proofs.Encoding.{laws}
 use Rattle.table_layout.proofs.Calls.{goes-on, turned-away}
-use Rattle.demands.specs.Strangers.{isMarkedIn, said, done, number, left, Strangers}
+use Rattle.demands.specs.Strangers.{isMarkedIn, OnlyTime, said, done, number, left, Strangers}
 use Rattle.demands.proofs.Marks.{Own, first-marks, next-marks}
 
 -- ---- of a table
@@ -107,6 +107,18 @@ module _ (s : TableState) (w : Wf s) (r : ReceiveArgs) (t : typed (receive r) �
   records-same : (wouldCount table s r h q ≡ true → ⊥) → x .records ≡ s .records
   records-same f = by-test (λ y. y ≡ s .records) (wouldCount table s r h q) (λ e. absurd (f e)) (λ _. refl)
 
+  only-time : (wouldEcho table s r h q ≡ true → ⊥) → (wouldCount table s r h q ≡ true → ⊥) → x ≡ withTime table s (r .time)
+  only-time f g =
+      let rs = rows-same f in
+      let es = records-same g in
+      λ i. record { config = κ; time = r .time; sends = s .sends; rows = rs i; records = es i }
+
+  no-echo : q .echo ≡ false → wouldEcho table s r h q ≡ true → ⊥
+  no-echo e y = true≢false (sym (echo-is y) ∙ e)
+
+  no-count : q .bidirectional ≡ false → wouldCount table s r h q ≡ true → ⊥
+  no-count e y = true≢false (sym (and-left (q .bidirectional) (not (q .duplicate)) (count-new y)) ∙ e)
+
   -- ---- a repeated packet is a duplicate, and its originator no own address
 
   module _ (d : markedOf s (h .originator) (linkBy r) (h .sequence) ≡ true) where
@@ -120,11 +132,9 @@ module _ (s : TableState) (w : Wf s) (r : ReceiveArgs) (t : typed (receive r) �
         go none e g = absurd (true≢false (sym g))
         go (some a) e g = not-true (q .ownOriginator) (entry a e .foreign)
 
-    only-time : x ≡ withTime table s (r .time)
-    only-time =
-        let rs = rows-same (λ e. true≢false (sym (echo-own e) ∙ not-own)) in
-        let es = records-same (λ e. true≢false (sym is-duplicate ∙ not-true (q .duplicate) (and-right (q .bidirectional) (not (q .duplicate)) (count-new e)))) in
-        λ i. record { config = κ; time = r .time; sends = s .sends; rows = rs i; records = es i }
+    repeated-time : x ≡ withTime table s (r .time)
+    repeated-time =
+        only-time (λ e. true≢false (sym (echo-own e) ∙ not-own)) (λ e. true≢false (sym is-duplicate ∙ not-true (q .duplicate) (and-right (q .bidirectional) (not (q .duplicate)) (count-new e))))
 
   -- ---- records
 
@@ -176,10 +186,14 @@ module _ (c : List ℕ) (r : ReceiveArgs) where
         otherVerdict = λ _. rw same;
         otherRows = λ l _. rw same;
         unheard = λ _. rw same;
-        repeated = λ _. (getD c timeAt 0, same ∙ sym (set-getD c timeAt 0));
+        silent = λ _ _. untimed;
+        repeated = λ _. untimed;
         others = λ o _. rw same;
         marks = λ o l n _ _ g. ap (λ (d : List ℕ). isMarkedIn d o l n) (sym same) ∙ g;
       }
+    where
+      untimed : OnlyTime c (left c r)
+      untimed = (getD c timeAt 0, same ∙ sym (set-getD c timeAt 0))
 
   unformed : wellFormed c ≡ false → Strangers c r
   unformed e = let off = turned-away c (receive r) e in unchanged (λ _. off) (ap (λ (d : Done). d .cells) off)
@@ -214,17 +228,19 @@ module _ (c : List ℕ) (r : ReceiveArgs) where
         let formed = subst (λ (o : OutcomeOf table). R.wellFormed (o .state) ≡ true) (rules .accepted n) (wellFormed-step (length c) before (laws .table c good) (receive r) t) in
         let e : decode (left c r) ≡ y = ap decode into ∙ laws .decoded y formed in
         let v : number c r ≡ verdictThen table before r (said r) q = ap (λ (d : Done). numberOf (d .reply .answer)) on in
+        let timed : y ≡ withTime table before (r .time) → OnlyTime c (left c r) = λ f. (r .time, into ∙ ap encode f ∙ time-set before (r .time) ∙ ap (λ (d : List ℕ). set d timeAt (r .time)) (laws .cells c good)) in
         let rows : (wouldEcho table before r (said r) q ≡ true → ⊥) → decode (left c r) .rows ≡ before .rows = λ f. ap (λ (z : TableState). z .rows) e ∙ rows-same before w r t f in
         record {
           unformed = not-one;
           turnedAway = λ g. absurd (true≢false (sym g ∙ ap isRefusal v ∙ rules .noRefusal));
           config = ap (λ (z : TableState). z .config) e;
           sends = ap (λ (z : TableState). z .sends) e;
-          noEcho = λ g. rows (λ k. true≢false (sym (echo-is before w r t k) ∙ g));
+          noEcho = λ g. rows (no-echo before w r t g);
           otherVerdict = λ f. rows (λ k. f (v ∙ echo-verdict before w r t k));
           otherRows = λ l f. ap (λ (z : TableState). lookup l (z .rows)) e ∙ rows-others before w r t l f;
-          unheard = λ g. ap (λ (z : TableState). z .records) e ∙ records-same before w r t (λ k. true≢false (sym (and-left (q .bidirectional) (not (q .duplicate)) (count-new before w r t k)) ∙ g));
-          repeated = λ g. (r .time, into ∙ ap encode (only-time before w r t g) ∙ time-set before (r .time) ∙ ap (λ (d : List ℕ). set d timeAt (r .time)) (laws .cells c good));
+          unheard = λ g. ap (λ (z : TableState). z .records) e ∙ records-same before w r t (no-count before w r t g);
+          silent = λ f g. timed (only-time before w r t (no-echo before w r t f) (no-count before w r t g));
+          repeated = λ g. timed (repeated-time before w r t g);
           others = λ o f. ap (λ (z : TableState). lookup o (z .records)) e ∙ others-same before w r t o f;
           marks = λ o l m small f g. marks-before before w r t o l m small f (ap (λ (z : TableState). markedOf z o l m) (sym e) ∙ g);
         }
