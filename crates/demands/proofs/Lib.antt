@@ -2,3 +2,5 @@
 pub mod Demand1
 pub mod Demand2
 pub mod Demand3
+pub mod Marks
+pub mod Strangers
