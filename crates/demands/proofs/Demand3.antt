@@ -134,7 +134,7 @@ unfolding repliesOn cellsAfter decode
 demand3 c a cs h t =
     let n = length c in
     let on = history-on n (callOn c (make a) .cells) (fresh table (configOf a)) (made-holds c a h) cs t in
-    let stands = D.demand3 n a cs h in
+    let stands = D.tables-tell n a cs h in
     let e : decode (cellsThen c a cs) ≡ tableThen n a cs = back n (cellsThen c a cs) (tableThen n a cs) (on .1) in
     let under : (o : ℕ) → recordsThen c a cs o ≡ keep (λ x. eqb o (x .0)) (tableThen n a cs .records) = λ o. ap (λ (s : TableState). keep (λ x. eqb o (x .0)) (s .records)) e in
     let replied : repliesThen c a cs ≡ answered (made 0) ∷ replies book n (fresh book (configOf a)) cs = (λ i. makes c a h i .reply ∷ on .0 i) ∙ ap (λ (rs : List Reply). answered (made 0) ∷ rs) (stands .same) in

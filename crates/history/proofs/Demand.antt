@@ -1,4 +1,4 @@
--- Demand 3 holds of every history.
+-- The tables of every history tell it.
 use Prim.Native.Nat.{ℕ, suc, _<_, _≤_}
 use mathlib.Core.Path.{_≡_, refl, sym, ap, ap₂, _∙_, subst}
 use mathlib.Core.Bool.{Bool, true, false, cond, _&&_, _||_, false≢true, or-true}
@@ -25,7 +25,7 @@ use Rattle.rules.proofs.Config.{make-allowed}
 use Rattle.history.specs.Book.{Log, one, cons, latest, current, came, stays, logCount, logLinks, noneHigher, logBest, book}
 use Rattle.history.specs.TableOfBook.{recordOf}
 use Rattle.history.specs.History.{after}
-use Rattle.history.specs.Demand.{Stood, now, before, Later, past, Stayed, NoneHigher, Best, Stands, bookThen, Demand3}
+use Rattle.history.specs.Demand.{Stood, now, before, Later, past, Stayed, NoneHigher, HowMany, Best, Stands, bookThen, TablesTell}
 use Rattle.history.proofs.Sound.{fresh-sound, after-sound}
 use Rattle.history.proofs.Log.{W, absent, none-higher}
 use Rattle.history.proofs.Records.{count-marks, marks-at, marked-stays}
@@ -152,6 +152,17 @@ module _ (κ : Config) (hκ : allowed κ ≡ true) where
           last u now b t = false≢true (sym e ∙ to-test (cons m s) t)
           last u (before a) b t = r .last u a b t
 
+-- ---- counts
+
+how-many-stayed : (κ : Config) (t : Log) (l : ℕ) → HowMany κ t l
+unfolding logCount
+how-many-stayed κ t l =
+    record {
+      hasStayed = stays κ t l;
+      tells = λ n h. ((λ e. stayed κ l n t e), (λ r. back κ l n t (r .at) (r .stood) (r .link) (r .number) (r .inside)));
+      number = refl;
+    }
+
 -- ---- a record stands as its log says
 
 module _ (κ : Config) (hκ : allowed κ ≡ true) (s : Log) where
@@ -167,6 +178,7 @@ module _ (κ : Config) (hκ : allowed κ ≡ true) (s : Log) where
         window = λ l n h. ((λ e. stayed κ l n s (sym (marked-stays κ s l n h) ∙ e)), (λ r. marked-stays κ s l n h ∙ back κ l n s (r .at) (r .stood) (r .link) (r .number) (r .inside)));
         howMany = how-many;
         most = λ l. rw (how-many l) (tally-most (W κ) (λ k. isMarked κ (recordOf κ s) l (distance (current κ s) k)));
+        counts = λ t _ l. how-many-stayed κ t l;
         best = best-is κ hκ s;
       }
 
@@ -180,9 +192,9 @@ module _ (κ : Config) (es : List (ℕ × Log)) (r : Rising es) (o : ℕ) where
       → keep (λ (e : ℕ × TableRecord). eqb o (e .0)) (mapValues (recordOf κ) es) ≡ maybe (Option·map (recordOf κ) x) [] (λ v. (o, v) ∷ [])
   under-is x h = under ∙ ap (λ (f : Option Log). maybe (Option·map (recordOf κ) f) [] (λ v. (o, v) ∷ [])) h
 
--- DEMAND 3
-pub demand3 : (cells : ℕ) (a : MakeArgs) (cs : List Call) → makeAllowed cells a ≡ true → Demand3 cells a cs
-demand3 cells a cs h =
+-- the tables of every history tell it
+pub tables-tell : (cells : ℕ) (a : MakeArgs) (cs : List Call) → makeAllowed cells a ≡ true → TablesTell cells a cs
+tables-tell cells a cs h =
     let p = make-allowed cells a h in
     let e = history cells (configOf a) p cs .1 in
     let b = bookThen cells a cs in

@@ -1,8 +1,8 @@
--- Demand 3: one claim about a whole history. It takes "counted" from the book. (RULES 10.2)
+-- What the table of a whole history tells, without cells; crate `demands` has it of cells, as demand 3. It takes "counted" from the book. (RULES 10.2)
 use Prim.Native.Nat.{ℕ, _<_, _≤_}
 use mathlib.Core.Path.{_≡_}
 use mathlib.Core.Logic.{_↔_}
-use mathlib.Core.Bool.{true}
+use mathlib.Core.Bool.{Bool, true}
 use mathlib.Core.Option.{Option, none, some}
 use mathlib.Core.List.{List, [], _∷_}
 use lib.Dec.{eqb}
@@ -36,6 +36,12 @@ pub record Stayed (κ : Config) (s : Log) (l n : ℕ) : Type 0 where
   pub number : sequenceOf (latest at) ≡ n
   pub inside : (u : Log) → Stood s u → Stood u at → distance (current κ u) n < κ .settings .window
 
+-- the count of link l after the latest count of t is how many of the window's numbers stayed on it
+pub record HowMany (κ : Config) (t : Log) (l : ℕ) : Type 0 where
+  pub hasStayed : ℕ → Bool
+  pub tells : (n : ℕ) → n < numbers → (hasStayed n ≡ true) ↔ Stayed κ t l n
+  pub number : logCount κ t l ≡ tally (κ .settings .window) (λ k. hasStayed (distance (current κ t) k))
+
 -- after the latest count of t no other link stood higher than its link
 abbrev pub NoneHigher : Config → Log → Type 0
 NoneHigher κ t = (l : ℕ) → (l ≡ latest t .link → ⊥) → notHigher κ (logCount κ t l) (logCount κ t (latest t .link)) ≡ true
@@ -56,6 +62,8 @@ pub record Stands (κ : Config) (s : Log) (r : TableRecord) : Type 0 where
   -- the count is how many, at most W
   pub howMany : (l : ℕ) → count (marksAt (r .links) l) ≡ tally (κ .settings .window) (λ k. isMarked κ r l (distance (r .current) k))
   pub most : (l : ℕ) → count (marksAt (r .links) l) ≤ κ .settings .window
+  -- the best link, by counts as they stood after each count
+  pub counts : (t : Log) → Stood s t → (l : ℕ) → HowMany κ t l
   pub best : Best κ s (r .best)
 
 -- ---- a history: a make that isn't refused, and then any calls, refused ones and further makes among them, on the table that it gave
@@ -74,7 +82,7 @@ module _ (cells : ℕ) (a : MakeArgs) (cs : List Call) where
   abbrev pub records : (o : ℕ) → List (ℕ × TableRecord)
   records o = keep (λ e. eqb o (e .0)) (tableThen .records)
 
-  pub record Demand3 : Type 0 where
+  pub record TablesTell : Type 0 where
     -- each call's answer, and the octets and rows lent to it as it leaves them, are the book's
     pub same : replies table cells (fresh table (configOf a)) cs ≡ replies book cells (fresh book (configOf a)) cs
     -- an originator without counted messages has no record
