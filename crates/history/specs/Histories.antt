@@ -6,7 +6,7 @@ use Rattle.rules.specs.declared.Settings.{Settings}
 use Rattle.rules.specs.Settings.{cellsNeeded}
 use Rattle.rules.specs.Calls.{Call, make, sweep, ask, list}
 use Rattle.rules.specs.Rules.{Words, fresh}
-use Rattle.rules.specs.Examples.{address, settings, config, packet, hear, write, played}
+use Rattle.rules.specs.Examples.{address, settings, config, packet, hear, write, played, nowhere, via, heard, unheard, wrote, total, told, joined}
 use Rattle.rules.specs.Edges.{makeArgs, blank}
 
 pub record History : Type 0 where
@@ -14,8 +14,8 @@ pub record History : Type 0 where
   pub calls : List Call
   pub says : List ℕ
 
-abbrev pub history : Settings → List Call → List ℕ → History
-history σ cs xs = record { settings = σ; calls = cs; says = xs }
+abbrev pub history : Settings → List Call → List (List ℕ) → History
+history σ cs xs = record { settings = σ; calls = cs; says = joined xs }
 
 -- on a fresh table, or in a book that starts with it
 abbrev pub answers : Words → History → List ℕ
@@ -34,41 +34,45 @@ ogm a n = hear a 0 0 12 (packet 900 0 50 n)
 abbrev pub ogmTtl : (sender n ttl : ℕ) → Call
 ogmTtl a n t = hear a 0 0 12 (packet 900 0 t n)
 
+-- an echo that is taken: no record is held of its originator
+abbrev pub echoTaken : List ℕ
+echoTaken = heard 22 0 nowhere
+
 unfoldable pub histories : List History
 histories =
     -- best is not the maximum: 20 stays best, even with count 0, and is held
     history (settings 8 32 64)
     (send ∷ echo 20 1 ∷ echo 30 1 ∷ echo 40 1 ∷ ogm 20 3 ∷ ogm 20 4 ∷ ogm 20 5 ∷ ogm 40 9 ∷ ogm 40 10 ∷ ogm 30 14 ∷ ask 900 ∷ list 900 (replicate 3 blank) ∷ [])
-    (0 ∷ 1 ∷ 22 ∷ 0 ∷ 22 ∷ 0 ∷ 22 ∷ 0 ∷ 26 ∷ 0 ∷ 26 ∷ 0 ∷ 26 ∷ 0 ∷ 25 ∷ 0 ∷ 25 ∷ 0 ∷ 25 ∷ 0 ∷ 0 ∷ 20 ∷ 0 ∷ 0 ∷ 3 ∷ [])
+    (wrote 12 1 ∷ echoTaken ∷ echoTaken ∷ echoTaken ∷ heard 26 0 (via 20 1) ∷ heard 26 0 (via 20 2) ∷ heard 26 0 (via 20 3) ∷ heard 25 0 (via 20 3) ∷ heard 25 0 (via 20 3) ∷ heard 25 0 (via 20 0) ∷ told (via 20 0) ∷ total 3 ∷ [])
     -- a link with no mark that isn't best is not
     ∷ history (settings 8 32 64)
     (send ∷ echo 20 1 ∷ echo 30 1 ∷ ogm 20 10 ∷ ogm 30 11 ∷ ogm 30 19 ∷ list 900 (replicate 3 blank) ∷ [])
-    (0 ∷ 1 ∷ 22 ∷ 0 ∷ 22 ∷ 0 ∷ 26 ∷ 0 ∷ 26 ∷ 0 ∷ 26 ∷ 0 ∷ 0 ∷ 1 ∷ [])
+    (wrote 12 1 ∷ echoTaken ∷ echoTaken ∷ heard 26 0 (via 20 1) ∷ heard 26 0 (via 30 1) ∷ heard 26 0 (via 30 1) ∷ total 1 ∷ [])
     -- the window moves up, and anew to a number outside it
     ∷ history (settings 8 32 64)
     (send ∷ echo 20 1 ∷ ogm 20 10 ∷ ogm 20 17 ∷ ask 900 ∷ ogm 20 18 ∷ ask 900 ∷ ogm 20 10 ∷ ask 900 ∷ [])
-    (0 ∷ 1 ∷ 22 ∷ 0 ∷ 26 ∷ 0 ∷ 26 ∷ 0 ∷ 0 ∷ 20 ∷ 2 ∷ 26 ∷ 0 ∷ 0 ∷ 20 ∷ 2 ∷ 26 ∷ 0 ∷ 0 ∷ 20 ∷ 1 ∷ [])
+    (wrote 12 1 ∷ echoTaken ∷ heard 26 0 (via 20 1) ∷ heard 26 0 (via 20 2) ∷ told (via 20 2) ∷ heard 26 0 (via 20 2) ∷ told (via 20 2) ∷ heard 26 0 (via 20 1) ∷ told (via 20 1) ∷ [])
     -- a number inside does not move it
     ∷ history (settings 8 32 64)
     (send ∷ echo 20 1 ∷ echo 30 1 ∷ ogm 20 10 ∷ ogm 30 5 ∷ ogm 20 12 ∷ ask 900 ∷ [])
-    (0 ∷ 1 ∷ 22 ∷ 0 ∷ 22 ∷ 0 ∷ 26 ∷ 0 ∷ 26 ∷ 0 ∷ 26 ∷ 0 ∷ 0 ∷ 20 ∷ 2 ∷ [])
+    (wrote 12 1 ∷ echoTaken ∷ echoTaken ∷ heard 26 0 (via 20 1) ∷ heard 26 0 (via 30 1) ∷ heard 26 0 (via 20 2) ∷ told (via 20 2) ∷ [])
     -- duplicates, by link, and the last TTL
     ∷ history (settings 8 32 64)
     (send ∷ echo 20 1 ∷ echo 30 1 ∷ ogm 20 10 ∷ ogm 20 10 ∷ ogmTtl 20 10 49 ∷ ogmTtl 30 10 49 ∷ ogm 20 10 ∷ ogmTtl 30 10 49 ∷ ask 900 ∷ [])
-    (0 ∷ 1 ∷ 22 ∷ 0 ∷ 22 ∷ 0 ∷ 26 ∷ 0 ∷ 26 ∷ 0 ∷ 25 ∷ 0 ∷ 26 ∷ 0 ∷ 25 ∷ 0 ∷ 26 ∷ 0 ∷ 0 ∷ 30 ∷ 1 ∷ [])
+    (wrote 12 1 ∷ echoTaken ∷ echoTaken ∷ heard 26 0 (via 20 1) ∷ heard 26 0 (via 20 1) ∷ heard 25 0 (via 20 1) ∷ heard 26 0 (via 30 1) ∷ heard 25 0 (via 30 1) ∷ heard 26 0 (via 30 1) ∷ told (via 30 1) ∷ [])
     -- B is 2: a row lasts one own packet; an echo begins anew; the other interface's packets don't matter
     ∷ history (settings 8 2 64)
     (send ∷ echo 20 1 ∷ send ∷ ogm 20 10 ∷ send ∷ ogm 20 11 ∷ ask 900 ∷ [])
-    (0 ∷ 1 ∷ 22 ∷ 0 ∷ 0 ∷ 2 ∷ 26 ∷ 0 ∷ 0 ∷ 3 ∷ 25 ∷ 0 ∷ 0 ∷ 20 ∷ 1 ∷ [])
+    (wrote 12 1 ∷ echoTaken ∷ wrote 12 2 ∷ heard 26 0 (via 20 1) ∷ wrote 12 3 ∷ heard 25 0 (via 20 1) ∷ told (via 20 1) ∷ [])
     ∷ history (settings 8 2 64)
     (send ∷ echo 20 1 ∷ send ∷ echo 20 2 ∷ send ∷ ogm 20 10 ∷ write 1 0 50 12 [] ∷ ogm 20 11 ∷ ask 900 ∷ [])
-    (0 ∷ 1 ∷ 22 ∷ 0 ∷ 0 ∷ 2 ∷ 22 ∷ 0 ∷ 0 ∷ 3 ∷ 26 ∷ 0 ∷ 0 ∷ 65535 ∷ 26 ∷ 0 ∷ 0 ∷ 20 ∷ 2 ∷ [])
+    (wrote 12 1 ∷ echoTaken ∷ wrote 12 2 ∷ echoTaken ∷ wrote 12 3 ∷ heard 26 0 (via 20 1) ∷ wrote 12 65535 ∷ heard 26 0 (via 20 2) ∷ told (via 20 2) ∷ [])
     -- one originator is held until it is swept
     ∷ history (settings 8 32 1)
     (send ∷ echo 20 1 ∷ ogm 20 10 ∷ hear 20 0 0 12 (packet 901 0 50 10) ∷ sweep 640000 ∷ sweep 640001 ∷ ask 900 ∷ hear 20 0 640001 12 (packet 901 0 50 10) ∷ [])
-    (0 ∷ 1 ∷ 22 ∷ 0 ∷ 26 ∷ 0 ∷ 10 ∷ 0 ∷ 0 ∷ 0 ∷ 0 ∷ 1 ∷ 0 ∷ 0 ∷ 0 ∷ 26 ∷ 0 ∷ [])
+    (wrote 12 1 ∷ echoTaken ∷ heard 26 0 (via 20 1) ∷ unheard 10 0 ∷ total 0 ∷ total 1 ∷ told nowhere ∷ heard 26 0 (via 20 1) ∷ [])
     -- a refused make changes nothing, another starts anew
     ∷ history (settings 8 32 64)
     (send ∷ echo 20 1 ∷ ogm 20 10 ∷ make (makeArgs (settings 8 32 64) 0 (1 ∷ [])) ∷ ask 900 ∷ make (makeArgs (settings 8 32 64) 1 (1 ∷ [])) ∷ ask 900 ∷ send ∷ [])
-    (0 ∷ 1 ∷ 22 ∷ 0 ∷ 26 ∷ 0 ∷ 12 ∷ 0 ∷ 20 ∷ 1 ∷ 0 ∷ 0 ∷ 0 ∷ 0 ∷ 0 ∷ 1 ∷ [])
+    (wrote 12 1 ∷ echoTaken ∷ heard 26 0 (via 20 1) ∷ (12 ∷ []) ∷ told (via 20 1) ∷ (0 ∷ []) ∷ told nowhere ∷ wrote 12 1 ∷ [])
     ∷ []

@@ -6,9 +6,10 @@ use lib.ListN.{replicate}
 use Rattle.rules.specs.declared.Settings.{Settings}
 use Rattle.rules.specs.declared.LinkRow.{LinkRow}
 use Rattle.rules.specs.Settings.{MakeArgs, defaults, cellsNeeded}
-use Rattle.rules.specs.Calls.{linkOf, make, receive, own, sweep, ask, list}
-use Rattle.rules.specs.Table.{TableRecord, TableState}
-use Rattle.rules.specs.Examples.{Ask, passes, sends, checks, makes, plays, leaves, formed, address, interface, settings, config, stage, recordWith, packet, hear, write, Row, row}
+use Rattle.rules.specs.Calls.{linkOf, Call, make, receive, own, sweep, ask, list}
+use Rattle.rules.specs.Rules.{fresh}
+use Rattle.rules.specs.Table.{TableRecord, TableState, table}
+use Rattle.rules.specs.Examples.{Ask, passes, sends, checks, makes, plays, leaves, refuses, formed, address, interface, settings, config, stage, recordWith, packet, hear, write, nowhere, via, heard, unheard, wrote, unwritten, total, refused, told, joined, Row, row}
 
 -- ---- packets, settings and tables
 
@@ -26,10 +27,14 @@ five v w b p n = record { version = v; window = w; timeout = b; purge = p; capac
 
 -- make with interfaces of these own addresses, so many in use
 abbrev pub makeArgs : Settings → (used : ℕ) → (owns : List ℕ) → MakeArgs
-makeArgs σ n owns = record { settings = σ; rows = map (λ a. interface a 1) owns; used = n }
+makeArgs σ n owns = record { settings = σ; rows = map (λ a. interface a (address 10 0 0 255) 1) owns; used = n }
 
 abbrev pub tried : Settings → (used : ℕ) → (owns : List ℕ) → Ask
 tried σ n owns = makes (cellsNeeded (σ .capacity)) (makeArgs σ n owns)
+
+-- make with one interface row
+abbrev pub triedRow : (own broadcast first : ℕ) → Ask
+triedRow a b n = makes (cellsNeeded 64) (record { settings = defaults; rows = interface a b n ∷ []; used = 1 })
 
 abbrev pub upFrom : (first n : ℕ) → List ℕ
 upFrom a zero = []
@@ -45,6 +50,10 @@ empty = stage (settings 8 32 64) (20 ∷ []) []
 -- one link, with mark 10, counted at time 0 with TTL 50
 abbrev pub single : TableState
 single = held 64 10 20 ((20, 10 ∷ []) ∷ [])
+
+-- other settings than the stage's: version 7, W is 3, the purge timeout 5; neighbour 20's link has marks 9 and 10
+abbrev pub other : TableState
+other = stage (five 7 3 32 5 64) (20 ∷ []) ((900, recordWith 3 10 20 0 ((20, 9 ∷ 10 ∷ []) ∷ [])) ∷ [])
 
 -- B is 2, and the row of neighbour 20 stands at distance 1
 abbrev pub aged : TableState
@@ -76,12 +85,24 @@ records n es = stage (settings 8 32 n) [] es
 abbrev pub fields : (current time ttl best : ℕ) → (links : List (ℕ × ℕ)) → TableState
 fields c t l b ls = records 64 ((900, record { current = c; time = t; lastTtl = l; best = b; links = ls }) ∷ [])
 
+-- two links through neighbour 20, one by each interface; the second's is best
+abbrev pub double : TableState
+double = fields 10 0 50 (linkOf 20 1) ((linkOf 20 0, 3) ∷ (linkOf 20 1, 1) ∷ [])
+
+-- a fresh table whose interfaces have these own addresses
+abbrev pub owning : List ℕ → TableState
+owning owns = fresh table (record { settings = settings 8 32 64; interfaces = map (λ a. interface a (address 10 0 0 255) 1) owns })
+
 -- a record with one link, with mark 10
 abbrev pub one : TableRecord
 one = recordWith 8 10 20 0 ((20, 10 ∷ []) ∷ [])
 
 abbrev pub blank : LinkRow
 blank = record { neighbour = 9; interface = 9; count = 9; window = 9; best = 0 }
+
+-- calls one after the other, and the answers that are due
+abbrev pub play : TableState → List Call → List (List ℕ) → Row
+play s cs xs = row (plays s cs) (joined xs)
 
 -- ---- the table
 
@@ -102,90 +123,107 @@ edges =
     ∷ row (checked 5 (replicate 4 0)) (6 ∷ [])
     ∷ row (checked 4 (entriesWith (33 ∷ []) ++ (0 ∷ []))) (7 ∷ [])
     -- the same of a received packet
-    ∷ row (plays empty (hear 20 0 0 22 (4 ∷ (replicate 11 0 ++ entriesWith (32 ∷ 33 ∷ []))) ∷ hear 20 0 0 16 (4 ∷ replicate 15 0) ∷ [])) (264 ∷ 0 ∷ 7 ∷ 0 ∷ [])
-    ∷ row (plays empty (hear 20 0 0 12 (5 ∷ replicate 11 0) ∷ hear 20 0 0 11 (5 ∷ replicate 10 0) ∷ [])) (6 ∷ 0 ∷ 5 ∷ 0 ∷ [])
+    ∷ play empty (hear 20 0 0 22 (4 ∷ (replicate 11 0 ++ entriesWith (32 ∷ 33 ∷ []))) ∷ hear 20 0 0 16 (4 ∷ replicate 15 0) ∷ []) (unheard 8 1 ∷ unheard 7 0 ∷ [])
+    ∷ play empty (hear 20 0 0 12 (5 ∷ replicate 11 0) ∷ hear 20 0 0 11 (5 ∷ replicate 10 0) ∷ []) (unheard 6 0 ∷ unheard 5 0 ∷ [])
     -- U and D told apart; unnamed bits stay
-    ∷ row (passes true 900 900 128 50) (0 ∷ 0 ∷ 24 ∷ 0 ∷ [])
-    ∷ row (passes true 900 900 64 50) (64 ∷ 49 ∷ 26 ∷ 0 ∷ [])
-    ∷ row (passes true 20 900 64 50) (0 ∷ 49 ∷ 26 ∷ 0 ∷ [])
-    ∷ row (passes false 900 900 63 50) (255 ∷ 49 ∷ 26 ∷ 63 ∷ [])
+    ∷ row (passes true 900 900 128 50) (0 ∷ 0 ∷ heard 24 0 nowhere)
+    ∷ row (passes true 900 900 64 50) (64 ∷ 49 ∷ heard 26 0 (via 900 1))
+    ∷ row (passes true 20 900 64 50) (0 ∷ 49 ∷ heard 26 0 (via 20 1))
+    ∷ row (passes false 900 900 63 50) (255 ∷ 49 ∷ heard 26 63 nowhere)
     -- a relay without a neighbour row is not passed on
-    ∷ row (passes false 20 900 0 50) (0 ∷ 0 ∷ 25 ∷ 0 ∷ [])
+    ∷ row (passes false 20 900 0 50) (0 ∷ 0 ∷ heard 25 0 nowhere)
     -- TTL 2 leaves as 1, 1 and 0 are not passed on and may be counted
-    ∷ row (passes true 20 900 0 2) (0 ∷ 1 ∷ 26 ∷ 0 ∷ [])
-    ∷ row (passes true 20 900 0 1) (0 ∷ 0 ∷ 25 ∷ 0 ∷ [])
-    ∷ row (passes false 900 900 0 2) (192 ∷ 1 ∷ 26 ∷ 0 ∷ [])
-    ∷ row (passes false 900 900 0 1) (0 ∷ 0 ∷ 25 ∷ 0 ∷ [])
-    ∷ row (plays empty (hear 20 0 0 12 (packet 900 0 0 300) ∷ ask 900 ∷ [])) (25 ∷ 0 ∷ 0 ∷ 20 ∷ 1 ∷ [])
+    ∷ row (passes true 20 900 0 2) (0 ∷ 1 ∷ heard 26 0 (via 20 1))
+    ∷ row (passes true 20 900 0 1) (0 ∷ 0 ∷ heard 25 0 (via 20 1))
+    ∷ row (passes false 900 900 0 2) (192 ∷ 1 ∷ heard 26 0 nowhere)
+    ∷ row (passes false 900 900 0 1) (0 ∷ 0 ∷ heard 25 0 nowhere)
+    ∷ play empty (hear 20 0 0 12 (packet 900 0 0 300) ∷ ask 900 ∷ []) (heard 25 0 (via 20 1) ∷ told (via 20 1) ∷ [])
     -- 13: an own packet's TTL 1 and 2; after 8; the first number, then one more modulo 65,536
-    ∷ row (plays empty (write 0 0 1 12 [] ∷ write 0 0 2 12 [] ∷ [])) (13 ∷ 0 ∷ 0 ∷ 6 ∷ [])
-    ∷ row (plays empty (write 0 0 1 22 (entriesWith (32 ∷ 33 ∷ [])) ∷ [])) (264 ∷ 0 ∷ [])
-    ∷ row (plays empty (write 1 0 50 12 [] ∷ write 1 0 50 12 [] ∷ [])) (0 ∷ 65535 ∷ 0 ∷ 0 ∷ [])
-    -- an own packet of 1,472 octets, where a bad mask is found, and of 1,477; of 16; the output exactly as long and one shorter
-    ∷ row (plays empty (write 0 0 50 1472 (entriesWith (33 ∷ []) ++ replicate 1455 0) ∷ write 0 0 50 1477 (entriesWith (33 ∷ []) ++ replicate 1460 0) ∷ [])) (8 ∷ 0 ∷ 5 ∷ 0 ∷ [])
-    ∷ row (plays empty (write 0 0 50 16 (replicate 4 0) ∷ write 0 0 50 11 [] ∷ write 0 0 50 1476 (replicate 1465 0) ∷ [])) (7 ∷ 0 ∷ 4 ∷ 0 ∷ 4 ∷ 0 ∷ [])
+    ∷ play empty (write 0 0 1 12 [] ∷ write 0 0 2 12 [] ∷ []) (unwritten 13 0 ∷ wrote 12 6 ∷ [])
+    ∷ play empty (write 0 0 1 22 (entriesWith (32 ∷ 33 ∷ [])) ∷ []) (unwritten 8 1 ∷ [])
+    ∷ play empty (write 1 0 50 12 [] ∷ write 1 0 50 12 [] ∷ []) (wrote 12 65535 ∷ wrote 12 0 ∷ [])
+    -- an own packet of 17 octets; of 1,472 octets, where a bad mask is found, and of 1,477; of 16; the output exactly as long and one shorter
+    ∷ play empty (write 0 0 50 18 (entriesWith (32 ∷ [])) ∷ []) (wrote 17 6 ∷ [])
+    ∷ play empty (write 0 0 50 1472 (entriesWith (33 ∷ []) ++ replicate 1455 0) ∷ write 0 0 50 1477 (entriesWith (33 ∷ []) ++ replicate 1460 0) ∷ []) (unwritten 8 0 ∷ unwritten 5 0 ∷ [])
+    ∷ play empty (write 0 0 50 16 (replicate 4 0) ∷ write 0 0 50 11 [] ∷ write 0 0 50 1476 (replicate 1465 0) ∷ []) (unwritten 7 0 ∷ unwritten 4 0 ∷ unwritten 4 0 ∷ [])
     -- its octets, high octet first, and the rest of the output untouched; all of it where it is refused
     ∷ row (leaves empty (own (record { interface = 1; time = 0; ttl = 3; gateway = 7; port = 258; hna = 1 ∷ 2 ∷ 3 ∷ 4 ∷ 24 ∷ []; output = replicate 18 9 })))
     (4 ∷ 0 ∷ 3 ∷ 7 ∷ 255 ∷ 255 ∷ 1 ∷ 2 ∷ 10 ∷ 0 ∷ 0 ∷ 2 ∷ 1 ∷ 2 ∷ 3 ∷ 4 ∷ 24 ∷ 9 ∷ [])
     ∷ row (leaves empty (own (record { interface = 2; time = 0; ttl = 3; gateway = 0; port = 0; hna = []; output = replicate 12 9 }))) (replicate 12 9)
+    -- the version of the table
+    ∷ play other (hear 20 0 0 12 (packet 900 0 50 11) ∷ []) (unheard 6 0 ∷ [])
+    ∷ row (leaves other (write 0 0 3 12 [])) (7 ∷ 0 ∷ 3 ∷ 0 ∷ 0 ∷ 6 ∷ 0 ∷ 0 ∷ 10 ∷ 0 ∷ 0 ∷ 1 ∷ [])
     -- the octets of a passed-on copy, of a verdict that writes nothing, and of a refusal
     ∷ row (leaves empty (receive (record { packet = relayed; sender = 20; interface = 0; time = 0; output = replicate 18 9 })))
     (4 ∷ 5 ∷ 49 ∷ 7 ∷ 0 ∷ 10 ∷ 1 ∷ 2 ∷ 0 ∷ 0 ∷ 3 ∷ 132 ∷ 1 ∷ 2 ∷ 3 ∷ 4 ∷ 24 ∷ 9 ∷ [])
     ∷ row (leaves empty (receive (record { packet = relayed; sender = 50; interface = 0; time = 0; output = replicate 18 9 }))) (replicate 18 9)
     ∷ row (leaves empty (receive (record { packet = relayed; sender = 20; interface = 2; time = 0; output = replicate 18 9 }))) (replicate 18 9)
     -- 4: receive's output exactly as long and one shorter, verdict aside, before 5
-    ∷ row (plays single (hear 20 0 0 12 (packet 900 0 50 11) ∷ hear 20 0 0 11 (packet 900 0 50 12) ∷ [])) (26 ∷ 0 ∷ 4 ∷ 0 ∷ [])
-    ∷ row (plays single (hear (address 10 0 0 1) 0 0 11 (packet 900 0 50 12) ∷ hear 20 0 0 0 (4 ∷ []) ∷ [])) (4 ∷ 0 ∷ 4 ∷ 0 ∷ [])
+    ∷ play single (hear 20 0 0 12 (packet 900 0 50 11) ∷ hear 20 0 0 11 (packet 900 0 50 12) ∷ []) (heard 26 0 (via 20 2) ∷ unheard 4 0 ∷ [])
+    ∷ play single (hear (address 10 0 0 1) 0 0 11 (packet 900 0 50 12) ∷ hear 20 0 0 0 (4 ∷ []) ∷ []) (unheard 4 0 ∷ unheard 4 0 ∷ [])
     -- 2: interfaces 0 and 1 are in use; before 3
-    ∷ row (plays single (hear 20 1 0 12 (packet 900 0 50 11) ∷ hear 20 2 0 12 (packet 900 0 50 11) ∷ write 2 0 50 12 [] ∷ [])) (25 ∷ 0 ∷ 2 ∷ 0 ∷ 2 ∷ 0 ∷ [])
+    ∷ play single (hear 20 1 0 12 (packet 900 0 50 11) ∷ hear 20 2 0 12 (packet 900 0 50 11) ∷ write 2 0 50 12 [] ∷ []) (heard 25 0 (via 20 1) ∷ unheard 2 0 ∷ unwritten 2 0 ∷ [])
     -- 3: the same time and an earlier one; a verdict sets it, a refused call doesn't
-    ∷ row (plays empty (sweep 7 ∷ hear 20 0 7 12 (packet 900 0 50 10) ∷ hear 20 0 6 0 (packet 900 0 50 11) ∷ hear 20 2 6 0 [] ∷ [])) (0 ∷ 0 ∷ 26 ∷ 0 ∷ 3 ∷ 0 ∷ 2 ∷ 0 ∷ [])
-    ∷ row (plays empty (write 0 7 50 12 [] ∷ write 0 6 50 0 [] ∷ sweep 7 ∷ sweep 6 ∷ [])) (0 ∷ 6 ∷ 3 ∷ 0 ∷ 0 ∷ 0 ∷ 3 ∷ 0 ∷ [])
-    ∷ row (plays empty (hear (address 10 0 0 2) 0 9 12 (packet 900 0 50 10) ∷ sweep 8 ∷ [])) (20 ∷ 0 ∷ 3 ∷ 0 ∷ [])
-    ∷ row (plays empty (hear 20 0 9 11 (packet 900 0 50 10) ∷ sweep 8 ∷ [])) (4 ∷ 0 ∷ 0 ∷ 0 ∷ [])
+    ∷ play empty (sweep 7 ∷ hear 20 0 7 12 (packet 900 0 50 10) ∷ hear 20 0 6 0 (packet 900 0 50 11) ∷ hear 20 2 6 0 [] ∷ []) (total 0 ∷ heard 26 0 (via 20 1) ∷ unheard 3 0 ∷ unheard 2 0 ∷ [])
+    ∷ play empty (write 0 7 50 12 [] ∷ write 0 6 50 0 [] ∷ sweep 7 ∷ sweep 6 ∷ []) (wrote 12 6 ∷ unwritten 3 0 ∷ total 0 ∷ refused 3 ∷ [])
+    ∷ play empty (hear (address 10 0 0 2) 0 9 12 (packet 900 0 50 10) ∷ sweep 8 ∷ []) (heard 20 0 nowhere ∷ refused 3 ∷ [])
+    ∷ play empty (hear 20 0 9 11 (packet 900 0 50 10) ∷ sweep 8 ∷ []) (unheard 4 0 ∷ total 0 ∷ [])
     -- 20 before 21 before 23; 22 needs D, the receiving interface's address, a packet sent and its number
-    ∷ row (plays empty (hear (address 10 0 0 1) 0 0 12 echoed ∷ hear (address 10 0 0 255) 0 0 12 echoed ∷ [])) (20 ∷ 0 ∷ 21 ∷ 0 ∷ [])
-    ∷ row (plays empty (hear 30 0 0 12 echoed ∷ hear 30 0 0 12 (packet (address 10 0 0 1) 128 50 5) ∷ hear 30 1 0 12 echoed ∷ [])) (22 ∷ 0 ∷ 23 ∷ 0 ∷ 23 ∷ 0 ∷ [])
-    ∷ row (plays empty (hear 30 0 0 12 (packet (address 10 0 0 1) 64 50 4) ∷ hear 30 1 0 12 (packet (address 10 0 0 2) 64 50 65534) ∷ [])) (23 ∷ 0 ∷ 23 ∷ 0 ∷ [])
+    ∷ play empty (hear (address 10 0 0 1) 0 0 12 echoed ∷ hear (address 10 0 0 255) 0 0 12 echoed ∷ []) (heard 20 0 nowhere ∷ heard 21 0 nowhere ∷ [])
+    ∷ play empty (hear 30 0 0 12 echoed ∷ hear 30 0 0 12 (packet (address 10 0 0 1) 128 50 5) ∷ hear 30 1 0 12 echoed ∷ []) (heard 22 0 nowhere ∷ heard 23 0 nowhere ∷ heard 23 0 nowhere ∷ [])
+    ∷ play empty (hear 30 0 0 12 (packet (address 10 0 0 1) 64 50 4) ∷ hear 30 1 0 12 (packet (address 10 0 0 2) 64 50 65534) ∷ []) (heard 23 0 nowhere ∷ heard 23 0 nowhere ∷ [])
+    -- both interfaces have sent 5: an echo of the one that the other hears
+    ∷ play (sentRows ((0, 5) ∷ (1, 5) ∷ []) []) (hear 30 1 0 12 echoed ∷ hear 30 0 0 12 (packet (address 10 0 0 2) 64 50 5) ∷ []) (heard 23 0 nowhere ∷ heard 23 0 nowhere ∷ [])
+    -- every interface's own and broadcast address; 20, 21 and 24 with the route of the packet's originator
+    ∷ play single (hear (address 10 0 0 2) 0 0 12 (packet 900 0 50 11) ∷ hear (address 10 0 0 255) 1 0 12 (packet 900 0 50 11) ∷ hear (address 10 0 1 255) 0 0 12 (packet 900 0 50 11) ∷ hear 20 0 0 12 (packet 900 128 50 11) ∷ [])
+    (heard 20 0 (via 20 1) ∷ heard 21 0 (via 20 1) ∷ heard 21 0 (via 20 1) ∷ heard 24 0 (via 20 1) ∷ [])
     -- an OGM that is not counted makes no record; an echo makes the link bidirectional
-    ∷ row (plays empty (hear 30 0 0 12 (packet 900 0 50 10) ∷ ask 900 ∷ [])) (25 ∷ 0 ∷ 0 ∷ 0 ∷ 0 ∷ [])
-    ∷ row (plays empty (hear 30 0 0 12 (packet 900 0 50 10) ∷ hear 30 0 0 12 echoed ∷ hear 30 0 0 12 (packet 900 0 50 10) ∷ ask 900 ∷ [])) (25 ∷ 0 ∷ 22 ∷ 0 ∷ 26 ∷ 0 ∷ 0 ∷ 30 ∷ 1 ∷ [])
+    ∷ play empty (hear 30 0 0 12 (packet 900 0 50 10) ∷ ask 900 ∷ []) (heard 25 0 nowhere ∷ told nowhere ∷ [])
+    ∷ play empty (hear 30 0 0 12 (packet 900 0 50 10) ∷ hear 30 0 0 12 echoed ∷ hear 30 0 0 12 (packet 900 0 50 10) ∷ ask 900 ∷ []) (heard 25 0 nowhere ∷ heard 22 0 nowhere ∷ heard 26 0 (via 30 1) ∷ told (via 30 1) ∷ [])
     -- an own packet drops the row at distance B; an echo before it resets the distance; another interface's packet drops none
-    ∷ row (plays aged (write 0 0 50 12 [] ∷ hear 20 0 0 12 (packet 900 0 50 10) ∷ [])) (0 ∷ 6 ∷ 25 ∷ 0 ∷ [])
-    ∷ row (plays aged (hear 20 0 0 12 echoed ∷ write 0 0 50 12 [] ∷ hear 20 0 0 12 (packet 900 0 50 10) ∷ [])) (22 ∷ 0 ∷ 0 ∷ 6 ∷ 26 ∷ 0 ∷ [])
-    ∷ row (plays aged (write 1 0 50 12 [] ∷ hear 20 0 0 12 (packet 900 0 50 10) ∷ [])) (0 ∷ 65535 ∷ 26 ∷ 0 ∷ [])
+    ∷ play aged (write 0 0 50 12 [] ∷ hear 20 0 0 12 (packet 900 0 50 10) ∷ []) (wrote 12 6 ∷ heard 25 0 nowhere ∷ [])
+    ∷ play aged (hear 20 0 0 12 echoed ∷ write 0 0 50 12 [] ∷ hear 20 0 0 12 (packet 900 0 50 10) ∷ []) (heard 22 0 nowhere ∷ wrote 12 6 ∷ heard 26 0 (via 20 1) ∷ [])
+    ∷ play aged (write 1 0 50 12 [] ∷ hear 20 0 0 12 (packet 900 0 50 10) ∷ []) (wrote 12 65535 ∷ heard 26 0 (via 20 1) ∷ [])
     -- 9: 31 neighbour rows, and 32 with and without this one
-    ∷ row (plays (crowd 31) (hear 99 0 0 12 echoed ∷ [])) (22 ∷ 0 ∷ [])
-    ∷ row (plays (crowd 32) (hear 99 0 0 12 echoed ∷ hear 20 0 0 12 echoed ∷ [])) (9 ∷ 0 ∷ 22 ∷ 0 ∷ [])
+    ∷ play (crowd 31) (hear 99 0 0 12 echoed ∷ []) (heard 22 0 nowhere ∷ [])
+    ∷ play (crowd 32) (hear 99 0 0 12 echoed ∷ hear 20 0 0 12 echoed ∷ []) (unheard 9 0 ∷ heard 22 0 nowhere ∷ [])
     -- 10: capacity reached, for a packet that would be counted and needs a record
-    ∷ row (plays (held 1 10 20 ((20, 10 ∷ []) ∷ [])) (hear 20 0 0 12 (packet 901 0 50 11) ∷ hear 20 0 0 12 (packet 900 0 50 11) ∷ [])) (10 ∷ 0 ∷ 26 ∷ 0 ∷ [])
-    ∷ row (plays (held 1 10 20 ((20, 10 ∷ []) ∷ [])) (hear 20 0 0 12 (packet 901 128 50 11) ∷ hear 50 0 0 12 (packet 901 0 50 11) ∷ [])) (24 ∷ 0 ∷ 25 ∷ 0 ∷ [])
-    ∷ row (plays (held 2 10 20 ((20, 10 ∷ []) ∷ [])) (hear 20 0 0 12 (packet 901 0 50 11) ∷ hear 20 0 0 12 (packet 902 0 50 11) ∷ [])) (26 ∷ 0 ∷ 10 ∷ 0 ∷ [])
+    ∷ play (held 1 10 20 ((20, 10 ∷ []) ∷ [])) (hear 20 0 0 12 (packet 901 0 50 11) ∷ hear 20 0 0 12 (packet 900 0 50 11) ∷ []) (unheard 10 0 ∷ heard 26 0 (via 20 2) ∷ [])
+    ∷ play (held 1 10 20 ((20, 10 ∷ []) ∷ [])) (hear 20 0 0 12 (packet 901 128 50 11) ∷ hear 50 0 0 12 (packet 901 0 50 11) ∷ []) (heard 24 0 nowhere ∷ heard 25 0 nowhere ∷ [])
+    ∷ play (held 2 10 20 ((20, 10 ∷ []) ∷ [])) (hear 20 0 0 12 (packet 901 0 50 11) ∷ hear 20 0 0 12 (packet 902 0 50 11) ∷ []) (heard 26 0 (via 20 1) ∷ unheard 10 0 ∷ [])
     -- 11: a ninth link; it comes in where another loses its last mark and isn't best, and not where that one is best
-    ∷ row (plays (eight 22 (3 ∷ []) (10 ∷ [])) (hear 28 0 0 12 (packet 900 0 50 10) ∷ hear 28 0 0 12 (packet 900 0 50 11) ∷ list 900 (replicate 8 blank) ∷ [])) (11 ∷ 0 ∷ 26 ∷ 0 ∷ 0 ∷ 8 ∷ [])
-    ∷ row (plays (eight 20 (3 ∷ []) (9 ∷ 10 ∷ [])) (hear 28 0 0 12 (packet 900 0 50 11) ∷ [])) (11 ∷ 0 ∷ [])
+    ∷ play (eight 22 (3 ∷ []) (10 ∷ [])) (hear 28 0 0 12 (packet 900 0 50 10) ∷ hear 28 0 0 12 (packet 900 0 50 11) ∷ list 900 (replicate 8 blank) ∷ []) (unheard 11 0 ∷ heard 26 0 (via 28 1) ∷ total 8 ∷ [])
+    ∷ play (eight 20 (3 ∷ []) (9 ∷ 10 ∷ [])) (hear 28 0 0 12 (packet 900 0 50 11) ∷ []) (unheard 11 0 ∷ [])
     -- list: as many rows as links and one fewer; an unknown originator; the rows whole
-    ∷ row (plays single (list 900 (blank ∷ []) ∷ list 900 [] ∷ list 901 [] ∷ [])) (0 ∷ 1 ∷ 4 ∷ 0 ∷ 0 ∷ 0 ∷ [])
+    ∷ play single (list 900 (blank ∷ []) ∷ list 900 [] ∷ list 901 [] ∷ []) (total 1 ∷ refused 4 ∷ total 0 ∷ [])
     ∷ row (leaves (held 64 10 20 ((20, 9 ∷ 10 ∷ []) ∷ (40, 10 ∷ []) ∷ [])) (list 900 (replicate 3 blank)))
     (20 ∷ 0 ∷ 2 ∷ 8 ∷ 1 ∷ 40 ∷ 0 ∷ 1 ∷ 8 ∷ 0 ∷ 9 ∷ 9 ∷ 9 ∷ 9 ∷ 0 ∷ [])
     ∷ row (leaves (held 64 10 20 ((20, 9 ∷ 10 ∷ []) ∷ (40, 10 ∷ []) ∷ [])) (list 900 (blank ∷ []))) (9 ∷ 9 ∷ 9 ∷ 9 ∷ 0 ∷ [])
-    ∷ row (leaves (fields 10 0 50 (linkOf 20 1) ((linkOf 20 0, 3) ∷ (linkOf 20 1, 1) ∷ [])) (list 900 (replicate 2 blank)))
+    ∷ row (leaves double (list 900 (replicate 2 blank)))
     (20 ∷ 0 ∷ 2 ∷ 8 ∷ 0 ∷ 20 ∷ 1 ∷ 1 ∷ 8 ∷ 1 ∷ [])
+    -- a link is a neighbour and an interface: 20's row is that of the second
+    ∷ play (sentRows ((0, 5) ∷ (1, 5) ∷ []) ((linkOf 20 1, 5) ∷ [])) (hear 20 1 0 12 (packet 900 0 50 10) ∷ hear 20 0 0 12 (packet 900 0 50 11) ∷ []) (heard 26 0 (20 ∷ 1 ∷ 1 ∷ 8 ∷ []) ∷ heard 25 0 (20 ∷ 1 ∷ 1 ∷ 8 ∷ []) ∷ [])
+    -- a route and a row have their own interface and the table's W
+    ∷ play double (ask 900 ∷ []) (told (20 ∷ 1 ∷ 1 ∷ 8 ∷ []) ∷ [])
+    ∷ play other (ask 900 ∷ []) (told (20 ∷ 0 ∷ 2 ∷ 3 ∷ []) ∷ [])
+    ∷ row (leaves other (list 900 (blank ∷ []))) (20 ∷ 0 ∷ 2 ∷ 3 ∷ 1 ∷ [])
     -- best: 12 via 30 leaves 20 without a mark, and best while 40 stands higher; without 40 it gives up its place
-    ∷ row (plays (held 64 10 20 ((20, 4 ∷ []) ∷ (40, 9 ∷ 10 ∷ []) ∷ [])) (hear 30 0 0 12 (packet 900 0 50 12) ∷ ask 900 ∷ list 900 (replicate 3 blank) ∷ [])) (25 ∷ 0 ∷ 0 ∷ 20 ∷ 0 ∷ 0 ∷ 3 ∷ [])
-    ∷ row (plays (held 64 10 20 ((20, 4 ∷ []) ∷ [])) (hear 30 0 0 12 (packet 900 0 50 12) ∷ ask 900 ∷ list 900 (replicate 3 blank) ∷ [])) (26 ∷ 0 ∷ 0 ∷ 30 ∷ 1 ∷ 0 ∷ 1 ∷ [])
+    ∷ play (held 64 10 20 ((20, 4 ∷ []) ∷ (40, 9 ∷ 10 ∷ []) ∷ [])) (hear 30 0 0 12 (packet 900 0 50 12) ∷ ask 900 ∷ list 900 (replicate 3 blank) ∷ []) (heard 25 0 (via 20 0) ∷ told (via 20 0) ∷ total 3 ∷ [])
+    ∷ play (held 64 10 20 ((20, 4 ∷ []) ∷ [])) (hear 30 0 0 12 (packet 900 0 50 12) ∷ ask 900 ∷ list 900 (replicate 3 blank) ∷ []) (heard 26 0 (via 30 1) ∷ told (via 30 1) ∷ total 1 ∷ [])
     -- a duplicate passes with the record's last TTL alone, and leaves it; it is no duplicate on another link
-    ∷ row (plays single (hear 20 0 0 12 (packet 900 0 49 10) ∷ hear 20 0 0 12 (packet 900 0 50 10) ∷ hear 30 0 0 12 (packet 900 0 49 10) ∷ [])) (25 ∷ 0 ∷ 26 ∷ 0 ∷ 26 ∷ 0 ∷ [])
+    ∷ play single (hear 20 0 0 12 (packet 900 0 49 10) ∷ hear 20 0 0 12 (packet 900 0 50 10) ∷ hear 30 0 0 12 (packet 900 0 49 10) ∷ []) (heard 25 0 (via 20 1) ∷ heard 26 0 (via 20 1) ∷ heard 26 0 (via 30 1) ∷ [])
     -- counting sets it
-    ∷ row (plays single (hear 20 0 0 12 (packet 900 0 49 11) ∷ hear 20 0 0 12 (packet 900 0 50 11) ∷ hear 20 0 0 12 (packet 900 0 49 11) ∷ ask 900 ∷ [])) (26 ∷ 0 ∷ 25 ∷ 0 ∷ 26 ∷ 0 ∷ 0 ∷ 20 ∷ 2 ∷ [])
+    ∷ play single (hear 20 0 0 12 (packet 900 0 49 11) ∷ hear 20 0 0 12 (packet 900 0 50 11) ∷ hear 20 0 0 12 (packet 900 0 49 11) ∷ ask 900 ∷ []) (heard 26 0 (via 20 2) ∷ heard 25 0 (via 20 2) ∷ heard 26 0 (via 20 2) ∷ told (via 20 2) ∷ [])
     -- distance B - 1 (P11 has B)
     ∷ row (sends 4 1 65535) (2 ∷ 3 ∷ 1 ∷ [])
     -- purge: exactly the timeout ago and one more; counting sets the record's time, a duplicate doesn't
-    ∷ row (plays single (sweep 640000 ∷ sweep 640001 ∷ ask 900 ∷ [])) (0 ∷ 0 ∷ 0 ∷ 1 ∷ 0 ∷ 0 ∷ 0 ∷ [])
-    ∷ row (plays single (hear 20 0 5 12 (packet 900 0 50 11) ∷ sweep 640005 ∷ sweep 640006 ∷ [])) (26 ∷ 0 ∷ 0 ∷ 0 ∷ 0 ∷ 1 ∷ [])
-    ∷ row (plays single (hear 20 0 5 12 (packet 900 0 50 10) ∷ sweep 640001 ∷ [])) (26 ∷ 0 ∷ 0 ∷ 1 ∷ [])
+    ∷ play single (sweep 640000 ∷ sweep 640001 ∷ ask 900 ∷ []) (total 0 ∷ total 1 ∷ told nowhere ∷ [])
+    ∷ play single (hear 20 0 5 12 (packet 900 0 50 11) ∷ sweep 640005 ∷ sweep 640006 ∷ []) (heard 26 0 (via 20 2) ∷ total 0 ∷ total 1 ∷ [])
+    ∷ play single (hear 20 0 5 12 (packet 900 0 50 10) ∷ sweep 640001 ∷ []) (heard 26 0 (via 20 1) ∷ total 1 ∷ [])
+    -- another purge timeout
+    ∷ play other (sweep 5 ∷ sweep 6 ∷ []) (total 0 ∷ total 1 ∷ [])
     -- freed room is used again; receiving frees no expired record
-    ∷ row (plays (held 1 10 20 ((20, 10 ∷ []) ∷ [])) (hear 20 0 640001 12 (packet 901 0 50 11) ∷ sweep 640001 ∷ hear 20 0 640001 12 (packet 901 0 50 11) ∷ [])) (10 ∷ 0 ∷ 0 ∷ 1 ∷ 26 ∷ 0 ∷ [])
+    ∷ play (held 1 10 20 ((20, 10 ∷ []) ∷ [])) (hear 20 0 640001 12 (packet 901 0 50 11) ∷ sweep 640001 ∷ hear 20 0 640001 12 (packet 901 0 50 11) ∷ []) (unheard 10 0 ∷ total 1 ∷ heard 26 0 (via 20 1) ∷ [])
     -- well-formed: a time of 64 bits; numbers sent, of interfaces in use, rising
     ∷ row (formed (record { config = config (settings 8 32 64); time = 18446744073709551615; sends = []; rows = []; records = [] })) (1 ∷ [])
     ∷ row (formed (record { config = config (settings 8 32 64); time = 18446744073709551616; sends = []; rows = []; records = [] })) (0 ∷ [])
@@ -198,6 +236,7 @@ edges =
     ∷ row (formed (sentRows ((0, 5) ∷ (1, 5) ∷ []) ((linkOf 20 1, 5) ∷ (linkOf 20 0, 5) ∷ []))) (0 ∷ [])
     ∷ row (formed (sentRows ((0, 5) ∷ []) ((linkOf 20 0, 5) ∷ (linkOf 20 0, 5) ∷ []))) (0 ∷ [])
     ∷ row (formed (sentRows ((0, 5) ∷ []) ((linkOf 20 1, 5) ∷ []))) (0 ∷ [])
+    ∷ row (formed (sentRows ((0, 5) ∷ []) ((linkOf 20 1, 65534) ∷ []))) (0 ∷ [])
     ∷ row (formed (sentRows ((0, 5) ∷ []) ((linkOf 20 2, 5) ∷ []))) (0 ∷ [])
     ∷ row (formed (sentRows ((0, 5) ∷ []) ((linkOf 4294967296 0, 5) ∷ []))) (0 ∷ [])
     ∷ row (formed (sentRows ((0, 5) ∷ []) ((linkOf 20 0, 65541) ∷ []))) (0 ∷ [])
@@ -223,10 +262,16 @@ edges =
     ∷ row (formed (fields 10 0 50 80 (map (λ l. (l * 4, 1)) (upFrom 20 9)))) (0 ∷ [])
     ∷ row (formed (fields 10 0 50 80 ((84, 1) ∷ (80, 1) ∷ []))) (0 ∷ [])
     ∷ row (formed (fields 10 0 50 82 ((82, 1) ∷ []))) (0 ∷ [])
+    ∷ row (formed (fields 10 0 50 (linkOf 4294967296 0) ((linkOf 4294967296 0, 1) ∷ []))) (0 ∷ [])
     ∷ row (formed (fields 10 0 50 80 ((80, 0) ∷ (84, 1) ∷ []))) (1 ∷ [])
     ∷ row (formed (fields 10 0 50 84 ((80, 0) ∷ (84, 1) ∷ []))) (0 ∷ [])
     ∷ row (formed (fields 10 0 50 81 ((80, 1) ∷ []))) (0 ∷ [])
     ∷ row (formed (fields 10 0 50 80 ((80, 256) ∷ []))) (0 ∷ [])
+    -- 1 to 4 interfaces, whose own addresses differ
+    ∷ row (formed (owning [])) (0 ∷ [])
+    ∷ row (formed (owning (1 ∷ 2 ∷ 3 ∷ 4 ∷ []))) (1 ∷ [])
+    ∷ row (formed (owning (1 ∷ 2 ∷ 3 ∷ 4 ∷ 5 ∷ []))) (0 ∷ [])
+    ∷ row (formed (owning (1 ∷ 2 ∷ 1 ∷ []))) (0 ∷ [])
     -- 12: each setting at its least, at its most, one beyond, and 0
     ∷ row (tried (five 0 1 1 1 1) 1 (1 ∷ [])) (0 ∷ [])
     ∷ row (tried (five 255 64 1000 4294967295 256) 1 (1 ∷ [])) (0 ∷ [])
@@ -246,9 +291,20 @@ edges =
     ∷ row (tried defaults 5 (1 ∷ 2 ∷ 3 ∷ 4 ∷ [])) (12 ∷ [])
     ∷ row (tried defaults 3 (1 ∷ 2 ∷ 3 ∷ 3 ∷ [])) (0 ∷ [])
     ∷ row (tried defaults 4 (1 ∷ 2 ∷ 3 ∷ 3 ∷ [])) (12 ∷ [])
+    -- an interface row's fields at their most, and one beyond
+    ∷ row (triedRow 4294967295 4294967295 65535) (0 ∷ [])
+    ∷ row (triedRow 4294967296 1 1) (12 ∷ [])
+    ∷ row (triedRow 1 4294967296 1) (12 ∷ [])
+    ∷ row (triedRow 1 1 65536) (12 ∷ [])
     -- the number of cells that 64 originators need, one fewer and one more; a refused make changes nothing
     ∷ row (makes (cellsNeeded 64) (makeArgs defaults 1 (1 ∷ []))) (0 ∷ [])
     ∷ row (makes (cellsNeeded 64 - 1) (makeArgs defaults 1 (1 ∷ []))) (12 ∷ [])
     ∷ row (makes (cellsNeeded 64 + 1) (makeArgs defaults 1 (1 ∷ []))) (12 ∷ [])
-    ∷ row (plays single (make (makeArgs defaults 1 (1 ∷ [])) ∷ ask 900 ∷ [])) (12 ∷ 0 ∷ 20 ∷ 1 ∷ [])
+    ∷ play single (make (makeArgs defaults 1 (1 ∷ [])) ∷ ask 900 ∷ []) ((12 ∷ []) ∷ told (via 20 1) ∷ [])
+    -- a refused call answers its number, the place for 8 and 0 in every other field, and writes nothing
+    ∷ row (refuses (receive (record { packet = relayed; sender = 20; interface = 0; time = 0; output = 9 ∷ 9 ∷ [] })) 8 3) (8 ∷ 3 ∷ 0 ∷ 0 ∷ 0 ∷ 0 ∷ 0 ∷ 9 ∷ 9 ∷ [])
+    ∷ row (refuses (own (record { interface = 1; time = 0; ttl = 3; gateway = 7; port = 258; hna = []; output = 9 ∷ 9 ∷ [] })) 8 3) (8 ∷ 3 ∷ 0 ∷ 0 ∷ 9 ∷ 9 ∷ [])
+    ∷ row (refuses (sweep 7) 1 0) (1 ∷ 0 ∷ [])
+    ∷ row (refuses (ask 900) 1 0) (1 ∷ 0 ∷ 0 ∷ 0 ∷ 0 ∷ [])
+    ∷ row (refuses (list 900 (blank ∷ [])) 1 0) (1 ∷ 0 ∷ 9 ∷ 9 ∷ 9 ∷ 9 ∷ 0 ∷ [])
     ∷ []

@@ -13,8 +13,9 @@ use Rattle.wire.specs.Check.{packetCheck}
 use Rattle.rules.specs.declared.Settings.{Settings}
 use Rattle.rules.specs.declared.Interface.{Interface}
 use Rattle.rules.specs.declared.LinkRow.{LinkRow}
+use Rattle.rules.specs.declared.Route.{Route}
 use Rattle.rules.specs.Settings.{MakeArgs, Config}
-use Rattle.rules.specs.Calls.{linkOf, neighbourOf, Answer, made, received, written, swept, asked, listed, Call, make, receive, own}
+use Rattle.rules.specs.Calls.{linkOf, neighbourOf, Answer, made, received, written, swept, asked, listed, Call, make, receive, own, Reply, refusal}
 use Rattle.rules.specs.Rules.{Words, StateOf, fresh, step}
 use Rattle.rules.specs.Table.{TableRecord, TableState, rowDistance, table}
 use Rattle.rules.specs.WellFormed.{wellFormed}
@@ -27,7 +28,7 @@ pub data Ask : Type 0 where
   -- a record whose links, by neighbour, have these marks; then n arrives through a neighbour that has a row:
   -- the current number then, the best neighbour, and for each link its neighbour, its count and its marked numbers from the lowest
   arrives : (W current best : ℕ) (links : List (ℕ × List ℕ)) (neighbour n : ℕ) → Ask
-  -- a packet arrives, and no record is held: the flags and TTL octets of the copy, the verdict, and the flags elsewhere
+  -- a packet arrives, and no record is held: the flags and TTL octets of the copy, and every field of the answer
   passes : (hasRow : Bool) (sender originator flags ttl : ℕ) → Ask
   -- an interface that sent n, with a row that recorded m, sends once more: the number it sent last, the row's distance, and how many rows are left
   sends : (B n m : ℕ) → Ask
@@ -37,26 +38,29 @@ pub data Ask : Type 0 where
   checks : (version : ℕ) (packet : List ℕ) → Ask
   -- the answer to a make that is lent so many cells
   makes : (cells : ℕ) → MakeArgs → Ask
-  -- calls one after the other on a table: what is shown of each answer
+  -- calls one after the other on a table: every field of each answer
   plays : TableState → List Call → Ask
   -- what a call leaves in what it was lent: the output's octets, or the fields of each row
   leaves : TableState → Call → Ask
+  -- every field of a refused call's answer, and what it leaves in what it was lent
+  refuses : Call → (number place : ℕ) → Ask
   -- is the table well-formed? 1 or 0
   formed : TableState → Ask
 
--- ---- the stage of the examples: two interfaces, the first has sent number 5; a packet comes from originator 900, at time 0
+-- ---- the stage of the examples: two interfaces, with a broadcast address each; the first has sent number 5; a packet comes from originator 900, at time 0
 
 abbrev pub address : (a b c d : ℕ) → ℕ
 address a b c d = ((a * 256 + b) * 256 + c) * 256 + d
 
-abbrev pub interface : (own first : ℕ) → Interface
-interface a n = record { own = a; broadcast = address 10 0 0 255; first = n }
+abbrev pub interface : (own broadcast first : ℕ) → Interface
+interface a b n = record { own = a; broadcast = b; first = n }
 
 abbrev pub settings : (W B capacity : ℕ) → Settings
 settings W B n = record { version = 4; window = W; timeout = B; purge = 640000; capacity = n }
 
 abbrev pub config : Settings → Config
-config σ = record { settings = σ; interfaces = interface (address 10 0 0 1) 1 ∷ interface (address 10 0 0 2) 65535 ∷ [] }
+config σ =
+    record { settings = σ; interfaces = interface (address 10 0 0 1) (address 10 0 0 255) 1 ∷ interface (address 10 0 0 2) (address 10 0 1 255) 65535 ∷ [] }
 
 -- these neighbours have rows on the first interface, which recorded its last number
 abbrev pub stage : Settings → (neighbours : List ℕ) → List (ℕ × TableRecord) → TableState
@@ -90,19 +94,26 @@ linksShown W c (e ∷ es) = neighbourOf (e .0) ∷ count (e .1) ∷ (marks W (e 
 abbrev pub flag : Bool → List ℕ
 flag b = cond b (1 ∷ []) (0 ∷ [])
 
--- an answer's number, with the place as the packet check carries it, and: the flags elsewhere, an own packet's number, how many records a sweep
--- removed, a route's neighbour and count, how many rows were filled
+-- ---- every field of an answer, in the order of its struct
+
+abbrev pub routeShown : Route → List ℕ
+routeShown x = x .neighbour ∷ x .interface ∷ x .count ∷ x .window ∷ []
+
 abbrev pub answerShown : Answer → List ℕ
 answerShown (made n) = n ∷ []
-answerShown (received a) = (a .number + 256 * a .place) ∷ a .flags ∷ []
-answerShown (written a) = (a .number + 256 * a .place) ∷ a .sequence ∷ []
+answerShown (received a) = a .number ∷ a .place ∷ a .flags ∷ routeShown (a .route)
+answerShown (written a) = a .number ∷ a .place ∷ a .length ∷ a .sequence ∷ []
 answerShown (swept a) = a .number ∷ a .removed ∷ []
-answerShown (asked a) = a .number ∷ a .route .neighbour ∷ a .route .count ∷ []
+answerShown (asked a) = a .number ∷ routeShown (a .route)
 answerShown (listed a) = a .number ∷ a .filled ∷ []
 
 abbrev pub rowsShown : List LinkRow → List ℕ
 rowsShown [] = []
 rowsShown (r ∷ rs) = r .neighbour ∷ r .interface ∷ r .count ∷ r .window ∷ r .best ∷ rowsShown rs
+
+-- what a call leaves in what it was lent
+abbrev pub lentShown : Reply → List ℕ
+lentShown x = x .output ++ rowsShown (x .rows)
 
 -- calls one after the other on a table of so many cells
 abbrev pub played : (W : Words) (cells : ℕ) → StateOf W → List Call → List ℕ
@@ -128,7 +139,47 @@ reply (checks v p) = packetCheck v p ∷ []
 reply (makes n a) = answerShown (step table n (fresh table (config (settings 8 32 64))) (make a) .reply .answer)
 reply (plays s cs) = played table 0 s cs
 reply (formed s) = flag (wellFormed s)
-reply (leaves s c) = let x = step table 0 s c .reply in x .output ++ rowsShown (x .rows)
+reply (leaves s c) = lentShown (step table 0 s c .reply)
+reply (refuses c n p) = let x = refusal c (record { number = n; place = p }) in answerShown (x .answer) ++ lentShown x
+
+-- ---- answers that are due, every field as its number
+
+-- "no route", and the route through a neighbour of the first interface where W is 8
+abbrev pub nowhere : List ℕ
+nowhere = 0 ∷ 0 ∷ 0 ∷ 0 ∷ []
+
+abbrev pub via : (neighbour count : ℕ) → List ℕ
+via a n = a ∷ 0 ∷ n ∷ 8 ∷ []
+
+-- a received packet's verdict, the flags elsewhere and the route; and its refusal
+abbrev pub heard : (verdict flags : ℕ) → (route : List ℕ) → List ℕ
+heard v f x = v ∷ 0 ∷ f ∷ x
+
+abbrev pub unheard : (number place : ℕ) → List ℕ
+unheard n p = n ∷ p ∷ 0 ∷ nowhere
+
+-- an own packet's length and number; and its refusal
+abbrev pub wrote : (length sequence : ℕ) → List ℕ
+wrote l n = 0 ∷ 0 ∷ l ∷ n ∷ []
+
+abbrev pub unwritten : (number place : ℕ) → List ℕ
+unwritten n p = n ∷ p ∷ 0 ∷ 0 ∷ []
+
+-- how many records a sweep removed, or rows a list call filled; and the refusal of either
+abbrev pub total : ℕ → List ℕ
+total n = 0 ∷ n ∷ []
+
+abbrev pub refused : (number : ℕ) → List ℕ
+refused n = n ∷ 0 ∷ []
+
+-- what the best question answers
+abbrev pub told : (route : List ℕ) → List ℕ
+told x = 0 ∷ x
+
+-- the answers of several calls
+abbrev pub joined : List (List ℕ) → List ℕ
+joined [] = []
+joined (x ∷ xs) = x ++ joined xs
 
 -- ---- P1 to P12; A is neighbour 20, B is 30, C is 40
 
@@ -163,9 +214,9 @@ examples =
     -- P8
     ∷ row (arrives 8 10 20 ((20, 9 ∷ 10 ∷ []) ∷ (40, 9 ∷ []) ∷ []) 40 10) (10 ∷ 40 ∷ 20 ∷ 2 ∷ 9 ∷ 10 ∷ 40 ∷ 2 ∷ 9 ∷ 10 ∷ [])
     -- P9
-    ∷ row (passes false 900 900 0 50) (192 ∷ 49 ∷ 26 ∷ 0 ∷ [])
+    ∷ row (passes false 900 900 0 50) (192 ∷ 49 ∷ heard 26 0 nowhere)
     -- P10
-    ∷ row (passes true 20 900 69 50) (5 ∷ 49 ∷ 26 ∷ 5 ∷ [])
+    ∷ row (passes true 20 900 69 50) (5 ∷ 49 ∷ heard 26 5 (via 20 1))
     -- P11
     ∷ row (sends 4 2 65535) (3 ∷ 4 ∷ 0 ∷ [])
     ∷ row (sends 5 2 65535) (3 ∷ 4 ∷ 1 ∷ [])
