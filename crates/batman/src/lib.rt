@@ -90,7 +90,7 @@ pub extern "C" fn batman_sweep(cells: &mut [u64], time: u64) -> Swept
 // The best link to an originator.
 #[no_mangle]
 pub extern "C" fn batman_best(cells: &[u64], originator: u32) -> Asked
-    ensures { λ r. ⌜ Promised (now (cells .entry)) (C.ask originator) (C.answered (C.asked r)) (now (cells .entry)) ⌝ }
+    ensures { λ r. ⌜ Promised (now (cells .entry)) (C.question originator) (C.answered (C.asked r)) (now (cells .entry)) ⌝ }
 {
     call_best::best(cells, originator)
 }

@@ -10,7 +10,7 @@ use table_record::route_of;
 use wire::refusals::NOT_WELL_FORMED;
 ghost use mathlib.Core.Path.{_≡_};
 ghost use Rattle.lists.specs.Keyed.{lookup};
-ghost use Rattle.rules.specs.Calls.{ask, asked, answered, noRoute};
+ghost use Rattle.rules.specs.Calls.{question, asked, answered, noRoute};
 ghost use Rattle.rules.specs.Rules.{routeOf};
 ghost use Rattle.rules.specs.Table.{table};
 ghost use Rattle.table_layout.specs.Calls.{Performed};
@@ -51,7 +51,7 @@ fn asked_as(number: u64, route: Route) -> Asked
 
 // The best link to an originator: refusal 1, or neighbour, interface, count and window, all 0 where no record is held.
 pub fn best(cells: &[u64], originator: u32) -> Asked
-    ensures { λ r. ⌜ Performed (now (cells .entry)) (ask originator) (answered (asked r)) (now (cells .entry)) ⌝ }
+    ensures { λ r. ⌜ Performed (now (cells .entry)) (question originator) (answered (asked r)) (now (cells .entry)) ⌝ }
 {
     if !well_formed(cells) {
         return asked_as(NOT_WELL_FORMED, no_route());

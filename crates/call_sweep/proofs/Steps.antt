@@ -79,9 +79,9 @@ module _ (c : List ℕ) (k : Knows c) (t : ℕ) (late : getD c timeAt 0 ≤ t) w
     past = ap (all (λ e. leb (e .1 .time) t)) (records-are c) ∙ past;
   }
 
-  pub asks : RecordsHeld (getD c recordsAt 0) t (take (length c - recordsFrom) (drop recordsFrom c))
+  pub meets : RecordsHeld (getD c recordsAt 0) t (take (length c - recordsFrom) (drop recordsFrom c))
   unfolding part
-  asks = subst (RecordsHeld (getD c recordsAt 0) t) (sym part-is) held
+  meets = subst (RecordsHeld (getD c recordsAt 0) t) (sym part-is) held
 
   -- what the pass leaves makes the table that the rules' purge leaves
   module _ (d : List ℕ) (kept : ℕ) (h : Kept (getD c recordsAt 0) t (getD c purgeAt 0) (take (length c - recordsFrom) (drop recordsFrom c)) d kept) where

@@ -13,14 +13,14 @@ use Rattle.lists.proofs.Tests.{both}
 use Rattle.wire.specs.declared.Fault.{Fault}
 use Rattle.wire.specs.Check.{numbered, given, firstOf}
 use Rattle.rules.specs.Settings.{MakeArgs, makeAllowed}
-use Rattle.rules.specs.Calls.{Call, make, receive, own, sweep, ask, list, numberOf, isRefusal, isRuleRefusal, refusalMost, refusal}
+use Rattle.rules.specs.Calls.{Call, make, receive, own, sweep, question, list, numberOf, isRefusal, isRuleRefusal, refusalMost, refusal}
 use Rattle.rules.specs.Rules.{OutcomeOf}
 use Rattle.rules.specs.Table.{table}
 use Rattle.rules.specs.Refusals.{facts, Exactly}
 use Rattle.rules.proofs.Config.{within-low, within-high}
 use Rattle.rules.proofs.Exactly.{exactly}
 use Rattle.table_layout.specs.Cells.{encode, decode, wellFormed}
-use Rattle.table_layout.specs.Calls.{Done, refused, stepped, makeOf, asks, callOn}
+use Rattle.table_layout.specs.Calls.{Done, refused, stepped, makeOf, meets, callOn}
 use Rattle.table_layout.proofs.Encoding.{laws}
 use Rattle.table_layout.proofs.Calls.{goes-on, turned-away}
 use Rattle.demands.specs.Demand1.{factsOn, lentOutput, lentRows, Refused, Accepted, Demand1}
@@ -38,7 +38,7 @@ leaves (make a) f = record { number = refl; output = refl; rows = refl }
 leaves (receive r) f = record { number = refl; output = refl; rows = refl }
 leaves (own a) f = record { number = refl; output = refl; rows = refl }
 leaves (sweep t) f = record { number = refl; output = refl; rows = refl }
-leaves (ask o) f = record { number = refl; output = refl; rows = refl }
+leaves (question o) f = record { number = refl; output = refl; rows = refl }
 leaves (list o rs) f = record { number = refl; output = refl; rows = refl }
 
 -- a refusal of the rules is a refusal
@@ -104,7 +104,7 @@ module _ (c : List ℕ) (call : Call) (o : makeOf call ≡ none) where
   abbrev rest : List (Option Fault)
   rest = facts table (length c) (decode c) call
 
-  asked : (b : Bool) → wellFormed c ≡ b → asks c call ≡ b
+  asked : (b : Bool) → wellFormed c ≡ b → meets c call ≡ b
   asked b w = λ i. maybe (o i) (w i) (λ a. makeAllowed (length c) a)
 
   first : (b : Bool) → wellFormed c ≡ b → firstOf (factsOn c call) ≡ firstOf (given (not b) 1 ∷ rest)
@@ -119,5 +119,5 @@ demand1 c (make a) = of-make c a (makeAllowed (length c) a) refl
 demand1 c (receive r) = of-other c (receive r) refl (wellFormed c) refl
 demand1 c (own a) = of-other c (own a) refl (wellFormed c) refl
 demand1 c (sweep t) = of-other c (sweep t) refl (wellFormed c) refl
-demand1 c (ask o) = of-other c (ask o) refl (wellFormed c) refl
+demand1 c (question o) = of-other c (question o) refl (wellFormed c) refl
 demand1 c (list o rs) = of-other c (list o rs) refl (wellFormed c) refl

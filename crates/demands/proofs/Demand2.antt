@@ -22,7 +22,7 @@ use Rattle.wire.specs.Check.{given, firstOf}
 use Rattle.wire.specs.PassOn.{flagsElsewhere}
 use Rattle.rules.specs.declared.Route.{Route}
 use Rattle.rules.specs.Settings.{Config, tableHead, recordCells, isInUse}
-use Rattle.rules.specs.Calls.{interfaceOf, ReceiveArgs, OwnArgs, Call, receive, own, ask, received, receivedAs, numberOf, isRefusal}
+use Rattle.rules.specs.Calls.{interfaceOf, ReceiveArgs, OwnArgs, Call, receive, own, question, received, receivedAs, numberOf, isRefusal}
 use Rattle.rules.specs.Rules.{OutcomeOf, Sends, lastSent, sendOn, linkBy, echoTests, ownPacket, routeOf, answerBest, send, step}
 use Rattle.rules.specs.Table.{TableState, TableRows, recordEcho, rowDistance, dropOld, table}
 use Rattle.rules.specs.Refusals.{Questions, questions, countedRecord, foreign, wouldEcho, wouldPass, verdictThen, copy, taken, facts, outcome}
@@ -219,7 +219,7 @@ module _ (c : List ℕ) (r : ReceiveArgs) (t : NotRefused c (receive r)) where
         route = route (decode left);
         says = subst (λ (x : OutcomeOf table). x .reply .answer ≡ received (receivedAs (numberOf (x .reply .answer)) 0 (flags (numberOf (x .reply .answer))) (route (x .state)))) (sym e) refl;
         noFlags = λ x. ap (λ (b : Bool). cond b (flagsElsewhere (header (r .packet) .flags)) 0) (ne-eqb (numberOn c (receive r)) 26 x);
-        best = ap (λ (d : Done). d .reply) (goes-on left (ask (header (r .packet) .originator)) (k .wellFormed));
+        best = ap (λ (d : Done). d .reply) (goes-on left (question (header (r .packet) .originator)) (k .wellFormed));
       }
 
 on-own : (c : List ℕ) (a : OwnArgs) → NotRefused c (own a) → OnOwn c a

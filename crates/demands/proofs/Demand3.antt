@@ -11,7 +11,7 @@ use Rattle.lists.specs.Lists.{keep, all}
 use Rattle.lists.proofs.Tests.{and-at, and-left, and-right}
 use Rattle.wire.specs.Check.{numbered, given, firstOf}
 use Rattle.rules.specs.Settings.{Config, MakeArgs, configOf, cellsNeeded, makeTests, makeAllowed}
-use Rattle.rules.specs.Calls.{Call, make, receive, own, sweep, ask, list, Reply, numberOf, made, answered}
+use Rattle.rules.specs.Calls.{Call, make, receive, own, sweep, question, list, Reply, numberOf, made, answered}
 use Rattle.rules.specs.Rules.{OutcomeOf, unless, refuse, begin, fresh, send, purge, answerBest, fillRows, step}
 use Rattle.rules.specs.Table.{TableState, table}
 use Rattle.rules.specs.Refusals.{facts, outcome}
@@ -50,7 +50,7 @@ by-rules c w (make a) = go (makeAllowed (length c) a) refl
 by-rules c w (receive r) = goes-on c (receive r) w
 by-rules c w (own a) = goes-on c (own a) w
 by-rules c w (sweep t) = goes-on c (sweep t) w
-by-rules c w (ask o) = goes-on c (ask o) w
+by-rules c w (question o) = goes-on c (question o) w
 by-rules c w (list o rs) = goes-on c (list o rs) w
 
 -- a call leaves a table for as many cells
@@ -67,7 +67,7 @@ taken-fills cells s p (make a) n = made-fills cells a (not-false (makeAllowed ce
 taken-fills cells s p (receive r) n = p
 taken-fills cells s p (own a) n = p
 taken-fills cells s p (sweep t) n = p
-taken-fills cells s p (ask o) n = p
+taken-fills cells s p (question o) n = p
 taken-fills cells s p (list o rs) n = p
 
 -- ---- cells that hold the table s

@@ -10,7 +10,7 @@ use Rattle.lists.specs.Lists.{maybe}
 use Rattle.wire.specs.declared.Fault.{Fault}
 use Rattle.wire.specs.Check.{given, firstOf}
 use Rattle.rules.specs.declared.LinkRow.{LinkRow}
-use Rattle.rules.specs.Calls.{Call, make, receive, own, sweep, ask, list, numberOf, isRefusal, refusal}
+use Rattle.rules.specs.Calls.{Call, make, receive, own, sweep, question, list, numberOf, isRefusal, refusal}
 use Rattle.rules.specs.Rules.{OutcomeOf}
 use Rattle.rules.specs.Table.{table}
 use Rattle.rules.specs.Refusals.{facts, outcome}
@@ -31,7 +31,7 @@ lentOutput (make a) = []
 lentOutput (receive r) = r .output
 lentOutput (own a) = a .output
 lentOutput (sweep t) = []
-lentOutput (ask o) = []
+lentOutput (question o) = []
 lentOutput (list o rs) = []
 
 abbrev pub lentRows : Call → List LinkRow
@@ -39,7 +39,7 @@ lentRows (make a) = []
 lentRows (receive r) = []
 lentRows (own a) = []
 lentRows (sweep t) = []
-lentRows (ask o) = []
+lentRows (question o) = []
 lentRows (list o rs) = rs
 
 -- ---- the cells c, whatever they hold, and any call

@@ -14,7 +14,7 @@ use Rattle.wire.specs.declared.Header.{Header}
 use Rattle.wire.specs.Packet.{header}
 use Rattle.wire.specs.PassOn.{flagsHere, passedOn}
 use Rattle.rules.specs.declared.Route.{Route}
-use Rattle.rules.specs.Calls.{interfaceOf, ReceiveArgs, OwnArgs, Call, receive, own, ask, received, asked, receivedAs, numberOf, isRefusal, answered}
+use Rattle.rules.specs.Calls.{interfaceOf, ReceiveArgs, OwnArgs, Call, receive, own, question, received, asked, receivedAs, numberOf, isRefusal, answered}
 use Rattle.rules.specs.Rules.{OutcomeOf, linkBy, singleHop, nextNumber, ownPacket, send}
 use Rattle.rules.specs.Table.{TableState, table}
 use Rattle.rules.specs.Refusals.{Questions, questions, countedRecord, wouldCount, verdictThen, taken}
@@ -121,7 +121,7 @@ pub record OnReceive (c : List ℕ) (r : ReceiveArgs) : Type 0 where
   pub route : Route
   pub says : callOn c (receive r) .reply .answer ≡ received (receivedAs (numberOn c (receive r)) 0 flags route)
   pub noFlags : (numberOn c (receive r) ≡ 26 → ⊥) → flags ≡ 0
-  pub best : callOn (callOn c (receive r) .cells) (ask (header (r .packet) .originator)) .reply ≡ answered (asked (record { number = 0; route = route }))
+  pub best : callOn (callOn c (receive r) .cells) (question (header (r .packet) .originator)) .reply ≡ answered (asked (record { number = 0; route = route }))
 
 pub record OnOwn (c : List ℕ) (a : OwnArgs) : Type 0 where
   pub kept : StillTable c (own a)

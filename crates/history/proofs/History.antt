@@ -8,7 +8,7 @@ use Rattle.lists.specs.Lists.{all}
 use Rattle.lists.proofs.Tests.{both, and-left, and-right}
 use Rattle.rules.specs.Settings.{Config, MakeArgs, configOf, allowed, makeAllowed}
 use Rattle.rules.specs.Calls.{Call, numberOf}
-use Rattle.rules.specs.Rules.{sequenceOf, Words, StateOf, fresh, step}
+use Rattle.rules.specs.Rules.{sequenceOf, Reading, StateOf, fresh, step}
 use Rattle.rules.specs.Table.{TableState, table}
 use Rattle.rules.specs.WellFormed.{wellFormed, typed}
 use Rattle.rules.proofs.Config.{make-allowed}
@@ -60,7 +60,7 @@ pub history-wellFormed : (cells : ℕ) (a : MakeArgs) (cs : List Call) → makeA
 history-wellFormed cells a cs h t = after-wellFormed cells (fresh table (configOf a)) (wellFormed-fresh (configOf a) (make-allowed cells a h)) cs t
 
 -- no call of a history answers 1, whatever its reading
-pub history-never-one : (W : Words) (cells : ℕ) (s : StateOf W) (cs : List Call) → all (λ x. not (eqb (numberOf (x .answer)) 1)) (replies W cells s cs) ≡ true
+pub history-never-one : (W : Reading) (cells : ℕ) (s : StateOf W) (cs : List Call) → all (λ x. not (eqb (numberOf (x .answer)) 1)) (replies W cells s cs) ≡ true
 unfolding replies
 history-never-one W cells s [] = refl
 history-never-one W cells s (c ∷ cs) = both (ap not (never-one W cells s c)) (history-never-one W cells (step W cells s c .state) cs)

@@ -1,4 +1,4 @@
--- Two readings whose words agree under a map give the same replies for every history, and the map leads from one end to the other.
+-- Two readings that agree under a map give the same replies for every history, and the map leads from one end to the other.
 -- This file knows the rules, and nothing of windows, marks, distances or octets.
 use Prim.Native.Nat.{ℕ, _-_}
 use mathlib.Core.Path.{_≡_, refl, sym, ap, _∙_}
@@ -17,9 +17,9 @@ use Rattle.wire.specs.declared.Fault.{Fault}
 use Rattle.wire.specs.Packet.{header}
 use Rattle.wire.specs.Check.{firstOf}
 use Rattle.rules.specs.Settings.{Config, configOf, allowed, makeAllowed}
-use Rattle.rules.specs.Calls.{Call, make, receive, own, sweep, ask, list, ReceiveArgs, Reply}
+use Rattle.rules.specs.Calls.{Call, make, receive, own, sweep, question, list, ReceiveArgs, Reply}
 use Rattle.rules.specs.declared.Ogm.{Ogm}
-use Rattle.rules.specs.Rules.{sequenceOf, Sends, sendOn, Words, StateOf, OutcomeOf, unless, receiveFaults, linkBy, message, isDuplicate, refuse, routeOf, linkRows, answerBest, fillRows, send, isExpired, purge, step}
+use Rattle.rules.specs.Rules.{sequenceOf, Sends, sendOn, Reading, StateOf, OutcomeOf, unless, receiveFaults, linkBy, message, isDuplicate, refuse, routeOf, linkRows, answerBest, fillRows, send, isExpired, purge, step}
 use Rattle.rules.specs.Refusals.{Questions, found, questions, countedRecord, roomFacts, stateThen, recordThen, wouldPass, taken, facts, outcome}
 use Rattle.rules.proofs.Faults.{none-at, not-given}
 use Rattle.rules.proofs.Config.{make-allowed}
@@ -29,7 +29,7 @@ use Rattle.history.specs.History.{after, replies}
 use Rattle.history.proofs.Sound.{Sound, step-sound}
 
 -- f and g take the parts of B to those of T, and each word with them, under κ
-pub record Agree (B T : Words) (f : Config → B .Record → T .Record) (g : Config → Sends → B .Rows → T .Rows) (κ : Config) : Type 0 where
+pub record Agree (B T : Reading) (f : Config → B .Record → T .Record) (g : Config → Sends → B .Rows → T .Rows) (κ : Config) : Type 0 where
   pub first : (m : Ogm) → T .first κ m ≡ f κ (B .first κ m)
   pub next : (m : Ogm) (a : B .Record) → T .next κ m (f κ a) ≡ f κ (B .next κ m a)
   pub time : (a : B .Record) → T .time (f κ a) ≡ B .time a
@@ -44,7 +44,7 @@ pub record Agree (B T : Words) (f : Config → B .Record → T .Record) (g : Con
   pub echo : (ns : Sends) → Fit ns → (l : ℕ) (rs : B .Rows) → T .echo κ ns l (g κ ns rs) ≡ g κ ns (B .echo κ ns l rs)
   pub sent : (ns : Sends) → Fit ns → (i : ℕ) (rs : B .Rows) → T .sent κ (sendOn κ ns i) i (g κ ns rs) ≡ g κ (sendOn κ ns i) (B .sent κ (sendOn κ ns i) i rs)
 
-module _ (B T : Words) (f : Config → B .Record → T .Record) (g : Config → Sends → B .Rows → T .Rows) where
+module _ (B T : Reading) (f : Config → B .Record → T .Record) (g : Config → Sends → B .Rows → T .Rows) where
   abbrev pub image : StateOf B → StateOf T
   image s =
       record {
@@ -60,7 +60,7 @@ module _ (B T : Words) (f : Config → B .Record → T .Record) (g : Config → 
 
 -- ---- one call, on a state s of B
 
-module _ (B T : Words) (f : Config → B .Record → T .Record) (g : Config → Sends → B .Rows → T .Rows) (s : StateOf B) (A : Agree B T f g (s .config)) (fit : Fit (s .sends)) where
+module _ (B T : Reading) (f : Config → B .Record → T .Record) (g : Config → Sends → B .Rows → T .Rows) (s : StateOf B) (A : Agree B T f g (s .config)) (fit : Fit (s .sends)) where
   abbrev κ : Config
   κ = s .config
 
@@ -141,10 +141,10 @@ module _ (B T : Words) (f : Config → B .Record → T .Record) (g : Config → 
       ap (λ (fs : List (Option Fault)). receiveFaults κ (s .time) r ++ fs) (ap (roomFacts T s′ r h) (questions-same r h) ∙ room-same r h (questions B s r h))
   facts-same cells (own a) = refl
   facts-same cells (sweep t) = refl
-  facts-same cells (ask o) = refl
+  facts-same cells (question o) = refl
   facts-same cells (list o lent) = rw (lookup-mapValues (f κ) o (s .records), rows-same (lookup o (s .records)))
 
-module _ (B T : Words) (f : Config → B .Record → T .Record) (g : Config → Sends → B .Rows → T .Rows) (agree : (κ : Config) → allowed κ ≡ true → Agree B T f g κ) (cells : ℕ) where
+module _ (B T : Reading) (f : Config → B .Record → T .Record) (g : Config → Sends → B .Rows → T .Rows) (agree : (κ : Config) → allowed κ ≡ true → Agree B T f g κ) (cells : ℕ) where
   outcome-same : (s : StateOf B) → Sound B s → (c : Call) → firstOf (facts B cells s c) ≡ none
       → outcome T cells (image B T f g s) c ≡ imageOf B T f g (outcome B cells s c)
   unfolding facts outcome send purge answerBest fillRows
@@ -164,7 +164,7 @@ module _ (B T : Words) (f : Config → B .Record → T .Record) (g : Config → 
         kept-same B T f g s A (p .fit) (λ a. not (isExpired T (s .config) t a)) (λ a. not (isExpired B (s .config) t a)) (λ a. ap not (e a)),
         length-mapValues,
       )
-  outcome-same s p (ask o) n =
+  outcome-same s p (question o) n =
       rw (lookup-mapValues (f (s .config)) o (s .records), route-same B T f g s (agree (s .config) (p .allowed)) (p .fit) (lookup o (s .records)))
   outcome-same s p (list o lent) n =
       rw (lookup-mapValues (f (s .config)) o (s .records), rows-same B T f g s (agree (s .config) (p .allowed)) (p .fit) (lookup o (s .records)))

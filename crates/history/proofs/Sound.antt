@@ -10,8 +10,8 @@ use Rattle.lists.proofs.Rising.{Rising, rising-keep, rising-put}
 use Rattle.wire.specs.Packet.{header}
 use Rattle.wire.specs.Check.{firstOf}
 use Rattle.rules.specs.Settings.{Config, configOf, allowed, makeAllowed}
-use Rattle.rules.specs.Calls.{Call, make, receive, own, sweep, ask, list}
-use Rattle.rules.specs.Rules.{Words, StateOf, fresh, isExpired, send, purge, answerBest, fillRows, step}
+use Rattle.rules.specs.Calls.{Call, make, receive, own, sweep, question, list}
+use Rattle.rules.specs.Rules.{Reading, StateOf, fresh, isExpired, send, purge, answerBest, fillRows, step}
 use Rattle.rules.specs.Refusals.{questions, countedRecord, wouldCount, facts, outcome}
 use Rattle.rules.proofs.Faults.{none-at, not-given}
 use Rattle.rules.proofs.Config.{make-allowed}
@@ -19,15 +19,15 @@ use Rattle.rules.proofs.Sends.{Fit, fit-sendOn}
 use Rattle.rules.proofs.Exactly.{step-keeps}
 use Rattle.history.specs.History.{after}
 
-pub record Sound (W : Words) (s : StateOf W) : Type 0 where
+pub record Sound (W : Reading) (s : StateOf W) : Type 0 where
   pub allowed : allowed (s .config) ≡ true
   pub fit : Fit (s .sends)
   pub rise : Rising (s .records)
 
-pub fresh-sound : (W : Words) (κ : Config) → allowed κ ≡ true → Sound W (fresh W κ)
+pub fresh-sound : (W : Reading) (κ : Config) → allowed κ ≡ true → Sound W (fresh W κ)
 fresh-sound W κ h = record { allowed = h; fit = refl; rise = tt }
 
-module _ (W : Words) (cells : ℕ) where
+module _ (W : Reading) (cells : ℕ) where
   taken-sound : (s : StateOf W) → Sound W s → (c : Call) → firstOf (facts W cells s c) ≡ none → Sound W (outcome W cells s c .state)
   unfolding facts outcome send purge answerBest fillRows
   taken-sound s p (make a) n = fresh-sound W (configOf a) (make-allowed cells a (not-false (makeAllowed cells a) (not-given (not (makeAllowed cells a)) 12 (none-at (facts W cells s (make a)) n 0))))
@@ -40,7 +40,7 @@ module _ (W : Words) (cells : ℕ) where
       }
   taken-sound s p (own a) n = record { allowed = p .allowed; fit = fit-sendOn (s .config) (p .allowed) (s .sends) (a .interface) (p .fit); rise = p .rise }
   taken-sound s p (sweep t) n = record { allowed = p .allowed; fit = p .fit; rise = rising-keep (λ e. not (isExpired W (s .config) t (e .1))) (s .records) (p .rise) }
-  taken-sound s p (ask o) n = p
+  taken-sound s p (question o) n = p
   taken-sound s p (list o lent) n = p
 
   pub step-sound : (s : StateOf W) → Sound W s → (c : Call) → Sound W (step W cells s c .state)

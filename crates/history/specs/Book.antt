@@ -1,4 +1,4 @@
--- RULES 9, "The book": its words, computed from the counted OGMs of each originator, and from the own packets since each link's latest echo.
+-- RULES 9, "The book": its reading, computed from the counted OGMs of each originator, and from the own packets since each link's latest echo.
 use Prim.Native.Nat.{ℕ, _+_}
 use mathlib.Core.Bool.{Bool, cond, _&&_, _||_}
 use mathlib.Core.List.{List, [], _∷_, map}
@@ -10,7 +10,7 @@ use Rattle.window.specs.Window.{distance, inside, tally}
 use Rattle.rules.specs.Settings.{Config}
 use Rattle.rules.specs.Calls.{interfaceOf}
 use Rattle.rules.specs.declared.Ogm.{Ogm}
-use Rattle.rules.specs.Rules.{sequenceOf, notHigher, Words, State}
+use Rattle.rules.specs.Rules.{sequenceOf, notHigher, Reading, State}
 
 -- ---- an originator's counted OGMs
 
@@ -78,7 +78,7 @@ oneMore i e = (e .0, e .1 + cond (eqb (interfaceOf (e .0)) i) 1 0)
 
 -- ---- the book (RULES 9.2, 9.3)
 
-abbrev pub book : Words
+abbrev pub book : Reading
 book =
     record {
       Record = Log;

@@ -4,8 +4,8 @@ use mathlib.Core.List.{List, [], _∷_}
 use lib.ListN.{replicate}
 use Rattle.rules.specs.declared.Settings.{Settings}
 use Rattle.rules.specs.Settings.{cellsNeeded}
-use Rattle.rules.specs.Calls.{Call, make, sweep, ask, list}
-use Rattle.rules.specs.Rules.{Words, fresh}
+use Rattle.rules.specs.Calls.{Call, make, sweep, question, list}
+use Rattle.rules.specs.Rules.{Reading, fresh}
 use Rattle.rules.specs.Examples.{address, settings, config, packet, hear, write, played, nowhere, via, heard, unheard, wrote, total, told, joined}
 use Rattle.rules.specs.Edges.{makeArgs, blank}
 
@@ -18,7 +18,7 @@ abbrev pub history : Settings → List Call → List (List ℕ) → History
 history σ cs xs = record { settings = σ; calls = cs; says = joined xs }
 
 -- on a fresh table, or in a book that starts with it
-abbrev pub answers : Words → History → List ℕ
+abbrev pub answers : Reading → History → List ℕ
 answers W h = played W (cellsNeeded (h .settings .capacity)) (fresh W (config (h .settings))) (h .calls)
 
 -- the first interface sends; it hears its packet n echoed, an OGM with number n, and one with another TTL
@@ -42,7 +42,7 @@ unfoldable pub histories : List History
 histories =
     -- best is not the maximum: 20 stays best, even with count 0, and is held
     history (settings 8 32 64)
-    (send ∷ echo 20 1 ∷ echo 30 1 ∷ echo 40 1 ∷ ogm 20 3 ∷ ogm 20 4 ∷ ogm 20 5 ∷ ogm 40 9 ∷ ogm 40 10 ∷ ogm 30 14 ∷ ask 900 ∷ list 900 (replicate 3 blank) ∷ [])
+    (send ∷ echo 20 1 ∷ echo 30 1 ∷ echo 40 1 ∷ ogm 20 3 ∷ ogm 20 4 ∷ ogm 20 5 ∷ ogm 40 9 ∷ ogm 40 10 ∷ ogm 30 14 ∷ question 900 ∷ list 900 (replicate 3 blank) ∷ [])
     (wrote 12 1 ∷ echoTaken ∷ echoTaken ∷ echoTaken ∷ heard 26 0 (via 20 1) ∷ heard 26 0 (via 20 2) ∷ heard 26 0 (via 20 3) ∷ heard 25 0 (via 20 3) ∷ heard 25 0 (via 20 3) ∷ heard 25 0 (via 20 0) ∷ told (via 20 0) ∷ total 3 ∷ [])
     -- a link with no mark that isn't best is not
     ∷ history (settings 8 32 64)
@@ -50,29 +50,29 @@ histories =
     (wrote 12 1 ∷ echoTaken ∷ echoTaken ∷ heard 26 0 (via 20 1) ∷ heard 26 0 (via 30 1) ∷ heard 26 0 (via 30 1) ∷ total 1 ∷ [])
     -- the window moves up, and anew to a number outside it
     ∷ history (settings 8 32 64)
-    (send ∷ echo 20 1 ∷ ogm 20 10 ∷ ogm 20 17 ∷ ask 900 ∷ ogm 20 18 ∷ ask 900 ∷ ogm 20 10 ∷ ask 900 ∷ [])
+    (send ∷ echo 20 1 ∷ ogm 20 10 ∷ ogm 20 17 ∷ question 900 ∷ ogm 20 18 ∷ question 900 ∷ ogm 20 10 ∷ question 900 ∷ [])
     (wrote 12 1 ∷ echoTaken ∷ heard 26 0 (via 20 1) ∷ heard 26 0 (via 20 2) ∷ told (via 20 2) ∷ heard 26 0 (via 20 2) ∷ told (via 20 2) ∷ heard 26 0 (via 20 1) ∷ told (via 20 1) ∷ [])
     -- a number inside does not move it
     ∷ history (settings 8 32 64)
-    (send ∷ echo 20 1 ∷ echo 30 1 ∷ ogm 20 10 ∷ ogm 30 5 ∷ ogm 20 12 ∷ ask 900 ∷ [])
+    (send ∷ echo 20 1 ∷ echo 30 1 ∷ ogm 20 10 ∷ ogm 30 5 ∷ ogm 20 12 ∷ question 900 ∷ [])
     (wrote 12 1 ∷ echoTaken ∷ echoTaken ∷ heard 26 0 (via 20 1) ∷ heard 26 0 (via 30 1) ∷ heard 26 0 (via 20 2) ∷ told (via 20 2) ∷ [])
     -- duplicates, by link, and the last TTL
     ∷ history (settings 8 32 64)
-    (send ∷ echo 20 1 ∷ echo 30 1 ∷ ogm 20 10 ∷ ogm 20 10 ∷ ogmTtl 20 10 49 ∷ ogmTtl 30 10 49 ∷ ogm 20 10 ∷ ogmTtl 30 10 49 ∷ ask 900 ∷ [])
+    (send ∷ echo 20 1 ∷ echo 30 1 ∷ ogm 20 10 ∷ ogm 20 10 ∷ ogmTtl 20 10 49 ∷ ogmTtl 30 10 49 ∷ ogm 20 10 ∷ ogmTtl 30 10 49 ∷ question 900 ∷ [])
     (wrote 12 1 ∷ echoTaken ∷ echoTaken ∷ heard 26 0 (via 20 1) ∷ heard 26 0 (via 20 1) ∷ heard 25 0 (via 20 1) ∷ heard 26 0 (via 30 1) ∷ heard 25 0 (via 30 1) ∷ heard 26 0 (via 30 1) ∷ told (via 30 1) ∷ [])
     -- B is 2: a row lasts one own packet; an echo begins anew; the other interface's packets don't matter
     ∷ history (settings 8 2 64)
-    (send ∷ echo 20 1 ∷ send ∷ ogm 20 10 ∷ send ∷ ogm 20 11 ∷ ask 900 ∷ [])
+    (send ∷ echo 20 1 ∷ send ∷ ogm 20 10 ∷ send ∷ ogm 20 11 ∷ question 900 ∷ [])
     (wrote 12 1 ∷ echoTaken ∷ wrote 12 2 ∷ heard 26 0 (via 20 1) ∷ wrote 12 3 ∷ heard 25 0 (via 20 1) ∷ told (via 20 1) ∷ [])
     ∷ history (settings 8 2 64)
-    (send ∷ echo 20 1 ∷ send ∷ echo 20 2 ∷ send ∷ ogm 20 10 ∷ write 1 0 50 12 [] ∷ ogm 20 11 ∷ ask 900 ∷ [])
+    (send ∷ echo 20 1 ∷ send ∷ echo 20 2 ∷ send ∷ ogm 20 10 ∷ write 1 0 50 12 [] ∷ ogm 20 11 ∷ question 900 ∷ [])
     (wrote 12 1 ∷ echoTaken ∷ wrote 12 2 ∷ echoTaken ∷ wrote 12 3 ∷ heard 26 0 (via 20 1) ∷ wrote 12 65535 ∷ heard 26 0 (via 20 2) ∷ told (via 20 2) ∷ [])
     -- one originator is held until it is swept
     ∷ history (settings 8 32 1)
-    (send ∷ echo 20 1 ∷ ogm 20 10 ∷ hear 20 0 0 12 (packet 901 0 50 10) ∷ sweep 640000 ∷ sweep 640001 ∷ ask 900 ∷ hear 20 0 640001 12 (packet 901 0 50 10) ∷ [])
+    (send ∷ echo 20 1 ∷ ogm 20 10 ∷ hear 20 0 0 12 (packet 901 0 50 10) ∷ sweep 640000 ∷ sweep 640001 ∷ question 900 ∷ hear 20 0 640001 12 (packet 901 0 50 10) ∷ [])
     (wrote 12 1 ∷ echoTaken ∷ heard 26 0 (via 20 1) ∷ unheard 10 0 ∷ total 0 ∷ total 1 ∷ told nowhere ∷ heard 26 0 (via 20 1) ∷ [])
     -- a refused make changes nothing, another starts anew
     ∷ history (settings 8 32 64)
-    (send ∷ echo 20 1 ∷ ogm 20 10 ∷ make (makeArgs (settings 8 32 64) 0 (1 ∷ [])) ∷ ask 900 ∷ make (makeArgs (settings 8 32 64) 1 (1 ∷ [])) ∷ ask 900 ∷ send ∷ [])
+    (send ∷ echo 20 1 ∷ ogm 20 10 ∷ make (makeArgs (settings 8 32 64) 0 (1 ∷ [])) ∷ question 900 ∷ make (makeArgs (settings 8 32 64) 1 (1 ∷ [])) ∷ question 900 ∷ send ∷ [])
     (wrote 12 1 ∷ echoTaken ∷ heard 26 0 (via 20 1) ∷ (12 ∷ []) ∷ told (via 20 1) ∷ (0 ∷ []) ∷ told nowhere ∷ wrote 12 1 ∷ [])
     ∷ []

@@ -2,9 +2,9 @@
 use Prim.Native.Nat.{ℕ}
 use mathlib.Core.List.{List, [], _∷_}
 use Rattle.rules.specs.Calls.{Call, Reply}
-use Rattle.rules.specs.Rules.{Words, StateOf, step}
+use Rattle.rules.specs.Rules.{Reading, StateOf, step}
 
-module _ (W : Words) (cells : ℕ) where
+module _ (W : Reading) (cells : ℕ) where
   unfoldable pub after : StateOf W → List Call → StateOf W
   after s [] = s
   after s (c ∷ cs) = after (step W cells s c .state) cs

@@ -48,14 +48,14 @@ module _ {A : Type 0} (asked due : A → List ℕ) where
   each (y ∷ ys) t x (List·Memᴰ·head e) = subst (λ (z : A). asked z ≡ due z) (sym e) (same-eq (asked y) (due y) (and-left (right y) (all right ys) t))
   each (y ∷ ys) t x (List·Memᴰ·tail m) = each ys (and-right (right y) (all right ys) t) x m
 
-abbrev asks : Row → List ℕ
-asks r = reply (r .ask)
+abbrev answers : Row → List ℕ
+answers r = reply (r .poses)
 
 abbrev says : Row → List ℕ
 says r = r .says
 
 -- a packet of 1,472 octets is accepted, by the laws: its 292 masks would take long to compute
-longest : right asks says (row (checked 4 (replicate 1460 0)) (0 ∷ [])) ≡ true
+longest : right answers says (row (checked 4 (replicate 1460 0)) (0 ∷ [])) ≡ true
 unfolding packetCheck packetOf headerOctets
 longest =
     let e : List ℕ = replicate 1460 0 in
@@ -65,14 +65,14 @@ longest =
     rw none-found
 
 -- the test, over both tables
-all-right : (all (right asks says) examples ≡ true) × (all (right asks says) (drop 1 edges) ≡ true)
+all-right : (all (right answers says) examples ≡ true) × (all (right answers says) (drop 1 edges) ≡ true)
 unfolding examples edges wellFormed ones onesIn writtenTo distance inside advance bit shift mark word header headerOctets packetOf isU isD unnamed firstWhere firstBadMask hnaFault packetFault writtenFault packetCheck flagsHere flagsElsewhere passedOn settingsOk allowed cellsNeeded makeAllowed linkOf neighbourOf interfaceOf refusal notHigher lastSent nextNumber branch unless receiveFault ownFault conclude answerBest fillRows verdict storeCounted counted uncounted decide takeEcho judge send purge step firstRecord nextRecord isMarked recordEcho dropOld
 all-right = (refl, refl)
 
 -- P1 to P12
-pub examples-hold : (r : Row) → List·Memᴰ r examples → reply (r .ask) ≡ r .says
-examples-hold = each asks says examples (all-right .0)
+pub examples-hold : (r : Row) → List·Memᴰ r examples → reply (r .poses) ≡ r .says
+examples-hold = each answers says examples (all-right .0)
 
-pub edges-hold : (r : Row) → List·Memᴰ r edges → reply (r .ask) ≡ r .says
+pub edges-hold : (r : Row) → List·Memᴰ r edges → reply (r .poses) ≡ r .says
 unfolding edges
-edges-hold = each asks says edges (both longest (all-right .1))
+edges-hold = each answers says edges (both longest (all-right .1))

@@ -20,8 +20,8 @@ use Rattle.wire.specs.PassOn.{flagsHere, flagsElsewhere, passedOn}
 use Rattle.wire.proofs.Laws.{reads-back}
 use Rattle.rules.specs.declared.Route.{Route}
 use Rattle.rules.specs.Settings.{neighbourMost, linkMost, ttlLeast, makeAllowed, isInUse}
-use Rattle.rules.specs.Calls.{received, ReceiveArgs, Call, make, receive, own, sweep, ask, list, numberOf, isRefusal, isRuleRefusal, receivedAs, Reply, answeredWriting, refusal}
-use Rattle.rules.specs.Rules.{Words, StateOf, OutcomeOf, branch, unless, receiveFaults, receiveFault, ownFault, linkBy, singleHop, message, conclude, ownHeader, withTime, withRecords, routeOf, linkRows, isPassedOn, refuse, answerBest, fillRows, verdict, storeCounted, counted, uncounted, decide, takeEcho, judge, send, purge, step}
+use Rattle.rules.specs.Calls.{received, ReceiveArgs, Call, make, receive, own, sweep, question, list, numberOf, isRefusal, isRuleRefusal, receivedAs, Reply, answeredWriting, refusal}
+use Rattle.rules.specs.Rules.{Reading, StateOf, OutcomeOf, branch, unless, receiveFaults, receiveFault, ownFault, linkBy, singleHop, message, conclude, ownHeader, withTime, withRecords, routeOf, linkRows, isPassedOn, refuse, answerBest, fillRows, verdict, storeCounted, counted, uncounted, decide, takeEcho, judge, send, purge, step}
 use Rattle.rules.specs.Refusals.{firstThat, Questions, found, questions, countedRecord, wouldEcho, wouldCount, roomFacts, verdicts, taken, facts, outcome, Exactly}
 use Rattle.rules.proofs.Faults.{first-append, first-single, unless-then, numbered, first-numbered, given-numbered, packet-numbered, written-numbered}
 
@@ -33,7 +33,7 @@ either false p q = q refl
 
 -- ---- a received packet
 
-module _ (W : Words) (s : StateOf W) (r : ReceiveArgs) (h : Header) where
+module _ (W : Reading) (s : StateOf W) (r : ReceiveArgs) (h : Header) where
   -- what RULES 6 says of it, by the answers to its questions
   abbrev page : (a b o e u k d f : Bool) → OutcomeOf W
   page a b o e u k d f =
@@ -102,7 +102,7 @@ first-passes p [] n h g = g
 first-passes p (e ∷ es) n h g =
     by-test (λ m. p m ≡ true) (e .0) (λ _. and-left (p (e .1)) (all (λ x. p (x .1)) es) h) (λ _. first-passes p es n (and-right (p (e .1)) (all (λ x. p (x .1)) es) h) g)
 
-module _ (W : Words) (cells : ℕ) (s : StateOf W) where
+module _ (W : Reading) (cells : ℕ) (s : StateOf W) where
   pub flat : (c : Call) → step W cells s c ≡ unless (firstOf (facts W cells s c)) (refuse W c s) (outcome W cells s c)
   unfolding step facts outcome receiveFault ownFault unless
   flat (make a) = rw first-single
@@ -111,10 +111,10 @@ module _ (W : Words) (cells : ℕ) (s : StateOf W) where
       rw (judge-flat W s r h, unless-then, first-append (receiveFaults (s .config) (s .time) r) (roomFacts W s r h (questions W s r h)))
   flat (own a) = rw (reads-back (ownHeader (s .config) (s .sends) a) (a .hna) .size)
   flat (sweep t) = rw first-single
-  flat (ask o) = refl
+  flat (question o) = refl
   flat (list o lent) = rw first-single
 
-module _ (W : Words) (cells : ℕ) (s : StateOf W) where
+module _ (W : Reading) (cells : ℕ) (s : StateOf W) where
   facts-numbered : (c : Call) → all numbered (facts W cells s c) ≡ true
   unfolding facts
   facts-numbered (make a) = both (given-numbered (not (makeAllowed cells a)) 12 refl) refl
@@ -135,10 +135,10 @@ module _ (W : Words) (cells : ℕ) (s : StateOf W) where
       (both (written-numbered (a .hna))
       (both (given-numbered (ltb (a .ttl) ttlLeast) 13 refl) refl))))
   facts-numbered (sweep t) = both (given-numbered (ltb t (s .time)) 3 refl) refl
-  facts-numbered (ask o) = refl
+  facts-numbered (question o) = refl
   facts-numbered (list o lent) = both (given-numbered (ltb (length lent) (length (linkRows W (s .config) (lookup o (s .records))))) 4 refl) refl
 
-pub exactly : (W : Words) (cells : ℕ) (s : StateOf W) (c : Call) → Exactly W cells s c
+pub exactly : (W : Reading) (cells : ℕ) (s : StateOf W) (c : Call) → Exactly W cells s c
 unfolding unless outcome send purge answerBest fillRows
 exactly W cells s c =
     record {
@@ -156,7 +156,7 @@ exactly W cells s c =
         not-true (isRefusal (firstThat vs 25)) (first-passes (λ n. not (isRefusal n)) vs 25 refl refl)
     number (own a) = refl
     number (sweep t) = refl
-    number (ask o) = refl
+    number (question o) = refl
     number (list o lent) = refl
 
 refusal-number : (c : Call) (f : Fault) → numberOf (refusal c f .answer) ≡ f .number
@@ -165,11 +165,11 @@ refusal-number (make a) f = refl
 refusal-number (receive r) f = refl
 refusal-number (own a) f = refl
 refusal-number (sweep t) f = refl
-refusal-number (ask o) f = refl
+refusal-number (question o) f = refl
 refusal-number (list o lent) f = refl
 
 -- so no call answers 1 by these rules
-pub never-one : (W : Words) (cells : ℕ) (s : StateOf W) (c : Call) → eqb (numberOf (step W cells s c .reply .answer)) 1 ≡ false
+pub never-one : (W : Reading) (cells : ℕ) (s : StateOf W) (c : Call) → eqb (numberOf (step W cells s c .reply .answer)) 1 ≡ false
 never-one W cells s c = go (firstOf (facts W cells s c)) refl
   where
     x : Exactly W cells s c
@@ -180,7 +180,7 @@ never-one W cells s c = go (firstOf (facts W cells s c)) refl
     go (some f) e = ap (λ (o : OutcomeOf W). eqb (numberOf (o .reply .answer)) 1) (x .refused f e) ∙ ap (λ n. eqb n 1) (refusal-number c f) ∙ ne-eqb (f .number) 1 (λ d. true≢false (sym (x .numbers f e) ∙ ap isRuleRefusal d))
 
 -- so what holds before a call, and of what it leaves where it is not refused, holds after it
-pub step-keeps : (W : Words) (cells : ℕ) (P : StateOf W → Type 0) (s : StateOf W) (c : Call) → P s
+pub step-keeps : (W : Reading) (cells : ℕ) (P : StateOf W → Type 0) (s : StateOf W) (c : Call) → P s
     → (firstOf (facts W cells s c) ≡ none → P (outcome W cells s c .state)) → P (step W cells s c .state)
 unfolding unless
 step-keeps W cells P s c p q = subst (λ (o : OutcomeOf W). P (o .state)) (sym (flat W cells s c)) (go (firstOf (facts W cells s c)) q)

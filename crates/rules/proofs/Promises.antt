@@ -17,13 +17,13 @@ use Rattle.wire.specs.Check.{firstOf}
 use Rattle.wire.specs.PassOn.{flagsHere, flagsElsewhere, passedOn}
 use Rattle.wire.proofs.Laws.{reads-back, copy, flags-octet}
 use Rattle.rules.specs.Calls.{written, received, receivedAs, writtenAs, ReceiveArgs, OwnArgs, receive, own}
-use Rattle.rules.specs.Rules.{Words, StateOf, ownHeader, ownPacket, singleHop, routeOf, send, step}
+use Rattle.rules.specs.Rules.{Reading, StateOf, ownHeader, ownPacket, singleHop, routeOf, send, step}
 use Rattle.rules.specs.Refusals.{Questions, questions, countedRecord, wouldCount, recordThen, verdictThen, taken, facts, outcome}
 use Rattle.rules.specs.Promises.{OwnWritten, PassedOn, ReceiveWritten}
 use Rattle.rules.proofs.Faults.{none-at}
 use Rattle.rules.proofs.Exactly.{exactly}
 
-module _ (W : Words) (cells : ℕ) (s : StateOf W) where
+module _ (W : Reading) (cells : ℕ) (s : StateOf W) where
   module _ (a : OwnArgs) (n : firstOf (facts W cells s (own a)) ≡ none) where
     sent : OwnWritten W s a (outcome W cells s (own a))
     unfolding outcome send writtenTo facts

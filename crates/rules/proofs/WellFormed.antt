@@ -22,7 +22,7 @@ use Rattle.wire.specs.Layout.{ttlAt, originatorAt}
 use Rattle.wire.specs.Packet.{octet, read4, header}
 use Rattle.wire.specs.Check.{firstOf}
 use Rattle.rules.specs.Settings.{Config, configOf, allowed, makeAllowed, neighbourMost, linkMost, interfaceMost, octets, addresses, isOctet, isAddress, isNumber, isTime, isInUse, isOwn}
-use Rattle.rules.specs.Calls.{neighbourOf, interfaceOf, ReceiveArgs, OwnArgs, Call, make, receive, own, sweep, ask, list}
+use Rattle.rules.specs.Calls.{neighbourOf, interfaceOf, ReceiveArgs, OwnArgs, Call, make, receive, own, sweep, question, list}
 use Rattle.rules.specs.declared.Ogm.{Ogm}
 use Rattle.rules.specs.Rules.{sequenceOf, Sends, hasSent, lastSent, nextNumber, sendOn, linkBy, message, echoTests, ownPacket, fresh, isExpired, answerBest, fillRows, send, purge, step}
 use Rattle.rules.specs.Table.{TableRecord, TableState, firstRecord, nextRecord, recordEcho, rowDistance, dropOld, table}
@@ -319,7 +319,7 @@ module _ (cells : ℕ) (s : TableState) (w : Wf s) where
       sent s w a (not-false (isInUse (s .config) (a .interface)) (not-given (not (isInUse (s .config) (a .interface))) 2 (at 0))) (ownPacket (s .config) (s .sends) a) t
       (ltb-false (a .time) (s .time) (not-given (ltb (a .time) (s .time)) 3 (at 1)))
   taken-wf (sweep u) t n = purged s w u t (ltb-false u (s .time) (not-given (ltb u (s .time)) 3 (none-at (facts table cells s (sweep u)) n 0)))
-  taken-wf (ask o) t n = w
+  taken-wf (question o) t n = w
   taken-wf (list o lent) t n = w
 
   pub step-wf : (c : Call) → typed c ≡ true → Wf (step table cells s c .state)

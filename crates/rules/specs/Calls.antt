@@ -54,7 +54,7 @@ pub data Call : Type 0 where
   own : OwnArgs → Call
   sweep : (time : ℕ) → Call
   -- the best question
-  ask : (originator : ℕ) → Call
+  question : (originator : ℕ) → Call
   -- with the lent rows as they stand
   list : (originator : ℕ) → List LinkRow → Call
 
@@ -127,5 +127,5 @@ refusal (make a) f = answered (made (f .number))
 refusal (receive a) f = answeredWriting (received (receivedAs (f .number) (f .place) 0 noRoute)) (a .output)
 refusal (own a) f = answeredWriting (written (writtenAs (f .number) (f .place) 0 0)) (a .output)
 refusal (sweep t) f = answered (swept (record { number = f .number; removed = 0 }))
-refusal (ask o) f = answered (asked (record { number = f .number; route = noRoute }))
+refusal (question o) f = answered (asked (record { number = f .number; route = noRoute }))
 refusal (list o rs) f = answeredFilling (listed (record { number = f .number; filled = 0 })) rs

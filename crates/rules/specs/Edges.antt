@@ -6,10 +6,10 @@ use lib.ListN.{replicate}
 use Rattle.rules.specs.declared.Settings.{Settings}
 use Rattle.rules.specs.declared.LinkRow.{LinkRow}
 use Rattle.rules.specs.Settings.{MakeArgs, defaults, cellsNeeded}
-use Rattle.rules.specs.Calls.{linkOf, Call, make, receive, own, sweep, ask, list}
+use Rattle.rules.specs.Calls.{linkOf, Call, make, receive, own, sweep, question, list}
 use Rattle.rules.specs.Rules.{fresh}
 use Rattle.rules.specs.Table.{TableRecord, TableState, table}
-use Rattle.rules.specs.Examples.{Ask, passes, sends, checks, makes, plays, leaves, refuses, formed, address, interface, settings, config, stage, recordWith, packet, hear, write, nowhere, via, heard, unheard, wrote, unwritten, total, refused, told, joined, Row, row}
+use Rattle.rules.specs.Examples.{Case, passes, sends, checks, makes, plays, leaves, refuses, formed, address, interface, settings, config, stage, recordWith, packet, hear, write, nowhere, via, heard, unheard, wrote, unwritten, total, refused, told, joined, Row, row}
 
 -- ---- packets, settings and tables
 
@@ -19,7 +19,7 @@ entriesWith [] = []
 entriesWith (m ∷ ms) = 0 ∷ 0 ∷ 0 ∷ 0 ∷ m ∷ entriesWith ms
 
 -- a packet of version 4 with these HNA octets
-abbrev pub checked : (version : ℕ) → List ℕ → Ask
+abbrev pub checked : (version : ℕ) → List ℕ → Case
 checked v e = checks v (4 ∷ (replicate 11 0 ++ e))
 
 abbrev pub five : (version window timeout purge capacity : ℕ) → Settings
@@ -29,11 +29,11 @@ five v w b p n = record { version = v; window = w; timeout = b; purge = p; capac
 abbrev pub makeArgs : Settings → (used : ℕ) → (owns : List ℕ) → MakeArgs
 makeArgs σ n owns = record { settings = σ; rows = map (λ a. interface a (address 10 0 0 255) 1) owns; used = n }
 
-abbrev pub tried : Settings → (used : ℕ) → (owns : List ℕ) → Ask
+abbrev pub tried : Settings → (used : ℕ) → (owns : List ℕ) → Case
 tried σ n owns = makes (cellsNeeded (σ .capacity)) (makeArgs σ n owns)
 
 -- make with one interface row
-abbrev pub triedRow : (own broadcast first : ℕ) → Ask
+abbrev pub triedRow : (own broadcast first : ℕ) → Case
 triedRow a b n = makes (cellsNeeded 64) (record { settings = defaults; rows = interface a b n ∷ []; used = 1 })
 
 abbrev pub upFrom : (first n : ℕ) → List ℕ
@@ -137,7 +137,7 @@ edges =
     ∷ row (passes true 20 900 0 1) (0 ∷ 0 ∷ heard 25 0 (via 20 1))
     ∷ row (passes false 900 900 0 2) (192 ∷ 1 ∷ heard 26 0 nowhere)
     ∷ row (passes false 900 900 0 1) (0 ∷ 0 ∷ heard 25 0 nowhere)
-    ∷ play empty (hear 20 0 0 12 (packet 900 0 0 300) ∷ ask 900 ∷ []) (heard 25 0 (via 20 1) ∷ told (via 20 1) ∷ [])
+    ∷ play empty (hear 20 0 0 12 (packet 900 0 0 300) ∷ question 900 ∷ []) (heard 25 0 (via 20 1) ∷ told (via 20 1) ∷ [])
     -- 13: an own packet's TTL 1 and 2; after 8; the first number, then one more modulo 65,536
     ∷ play empty (write 0 0 1 12 [] ∷ write 0 0 2 12 [] ∷ []) (unwritten 13 0 ∷ wrote 12 6 ∷ [])
     ∷ play empty (write 0 0 1 22 (entriesWith (32 ∷ 33 ∷ [])) ∷ []) (unwritten 8 1 ∷ [])
@@ -178,8 +178,8 @@ edges =
     ∷ play single (hear (address 10 0 0 2) 0 0 12 (packet 900 0 50 11) ∷ hear (address 10 0 0 255) 1 0 12 (packet 900 0 50 11) ∷ hear (address 10 0 1 255) 0 0 12 (packet 900 0 50 11) ∷ hear 20 0 0 12 (packet 900 128 50 11) ∷ [])
     (heard 20 0 (via 20 1) ∷ heard 21 0 (via 20 1) ∷ heard 21 0 (via 20 1) ∷ heard 24 0 (via 20 1) ∷ [])
     -- an OGM that is not counted makes no record; an echo makes the link bidirectional
-    ∷ play empty (hear 30 0 0 12 (packet 900 0 50 10) ∷ ask 900 ∷ []) (heard 25 0 nowhere ∷ told nowhere ∷ [])
-    ∷ play empty (hear 30 0 0 12 (packet 900 0 50 10) ∷ hear 30 0 0 12 echoed ∷ hear 30 0 0 12 (packet 900 0 50 10) ∷ ask 900 ∷ []) (heard 25 0 nowhere ∷ heard 22 0 nowhere ∷ heard 26 0 (via 30 1) ∷ told (via 30 1) ∷ [])
+    ∷ play empty (hear 30 0 0 12 (packet 900 0 50 10) ∷ question 900 ∷ []) (heard 25 0 nowhere ∷ told nowhere ∷ [])
+    ∷ play empty (hear 30 0 0 12 (packet 900 0 50 10) ∷ hear 30 0 0 12 echoed ∷ hear 30 0 0 12 (packet 900 0 50 10) ∷ question 900 ∷ []) (heard 25 0 nowhere ∷ heard 22 0 nowhere ∷ heard 26 0 (via 30 1) ∷ told (via 30 1) ∷ [])
     -- an own packet drops the row at distance B; an echo before it resets the distance; another interface's packet drops none
     ∷ play aged (write 0 0 50 12 [] ∷ hear 20 0 0 12 (packet 900 0 50 10) ∷ []) (wrote 12 6 ∷ heard 25 0 nowhere ∷ [])
     ∷ play aged (hear 20 0 0 12 echoed ∷ write 0 0 50 12 [] ∷ hear 20 0 0 12 (packet 900 0 50 10) ∷ []) (heard 22 0 nowhere ∷ wrote 12 6 ∷ heard 26 0 (via 20 1) ∷ [])
@@ -204,20 +204,20 @@ edges =
     -- a link is a neighbour and an interface: 20's row is that of the second
     ∷ play (sentRows ((0, 5) ∷ (1, 5) ∷ []) ((linkOf 20 1, 5) ∷ [])) (hear 20 1 0 12 (packet 900 0 50 10) ∷ hear 20 0 0 12 (packet 900 0 50 11) ∷ []) (heard 26 0 (20 ∷ 1 ∷ 1 ∷ 8 ∷ []) ∷ heard 25 0 (20 ∷ 1 ∷ 1 ∷ 8 ∷ []) ∷ [])
     -- a route and a row have their own interface and the table's W
-    ∷ play double (ask 900 ∷ []) (told (20 ∷ 1 ∷ 1 ∷ 8 ∷ []) ∷ [])
-    ∷ play other (ask 900 ∷ []) (told (20 ∷ 0 ∷ 2 ∷ 3 ∷ []) ∷ [])
+    ∷ play double (question 900 ∷ []) (told (20 ∷ 1 ∷ 1 ∷ 8 ∷ []) ∷ [])
+    ∷ play other (question 900 ∷ []) (told (20 ∷ 0 ∷ 2 ∷ 3 ∷ []) ∷ [])
     ∷ row (leaves other (list 900 (blank ∷ []))) (20 ∷ 0 ∷ 2 ∷ 3 ∷ 1 ∷ [])
     -- best: 12 via 30 leaves 20 without a mark, and best while 40 stands higher; without 40 it gives up its place
-    ∷ play (held 64 10 20 ((20, 4 ∷ []) ∷ (40, 9 ∷ 10 ∷ []) ∷ [])) (hear 30 0 0 12 (packet 900 0 50 12) ∷ ask 900 ∷ list 900 (replicate 3 blank) ∷ []) (heard 25 0 (via 20 0) ∷ told (via 20 0) ∷ total 3 ∷ [])
-    ∷ play (held 64 10 20 ((20, 4 ∷ []) ∷ [])) (hear 30 0 0 12 (packet 900 0 50 12) ∷ ask 900 ∷ list 900 (replicate 3 blank) ∷ []) (heard 26 0 (via 30 1) ∷ told (via 30 1) ∷ total 1 ∷ [])
+    ∷ play (held 64 10 20 ((20, 4 ∷ []) ∷ (40, 9 ∷ 10 ∷ []) ∷ [])) (hear 30 0 0 12 (packet 900 0 50 12) ∷ question 900 ∷ list 900 (replicate 3 blank) ∷ []) (heard 25 0 (via 20 0) ∷ told (via 20 0) ∷ total 3 ∷ [])
+    ∷ play (held 64 10 20 ((20, 4 ∷ []) ∷ [])) (hear 30 0 0 12 (packet 900 0 50 12) ∷ question 900 ∷ list 900 (replicate 3 blank) ∷ []) (heard 26 0 (via 30 1) ∷ told (via 30 1) ∷ total 1 ∷ [])
     -- a duplicate passes with the record's last TTL alone, and leaves it; it is no duplicate on another link
     ∷ play single (hear 20 0 0 12 (packet 900 0 49 10) ∷ hear 20 0 0 12 (packet 900 0 50 10) ∷ hear 30 0 0 12 (packet 900 0 49 10) ∷ []) (heard 25 0 (via 20 1) ∷ heard 26 0 (via 20 1) ∷ heard 26 0 (via 30 1) ∷ [])
     -- counting sets it
-    ∷ play single (hear 20 0 0 12 (packet 900 0 49 11) ∷ hear 20 0 0 12 (packet 900 0 50 11) ∷ hear 20 0 0 12 (packet 900 0 49 11) ∷ ask 900 ∷ []) (heard 26 0 (via 20 2) ∷ heard 25 0 (via 20 2) ∷ heard 26 0 (via 20 2) ∷ told (via 20 2) ∷ [])
+    ∷ play single (hear 20 0 0 12 (packet 900 0 49 11) ∷ hear 20 0 0 12 (packet 900 0 50 11) ∷ hear 20 0 0 12 (packet 900 0 49 11) ∷ question 900 ∷ []) (heard 26 0 (via 20 2) ∷ heard 25 0 (via 20 2) ∷ heard 26 0 (via 20 2) ∷ told (via 20 2) ∷ [])
     -- distance B - 1 (P11 has B)
     ∷ row (sends 4 1 65535) (2 ∷ 3 ∷ 1 ∷ [])
     -- purge: exactly the timeout ago and one more; counting sets the record's time, a duplicate doesn't
-    ∷ play single (sweep 640000 ∷ sweep 640001 ∷ ask 900 ∷ []) (total 0 ∷ total 1 ∷ told nowhere ∷ [])
+    ∷ play single (sweep 640000 ∷ sweep 640001 ∷ question 900 ∷ []) (total 0 ∷ total 1 ∷ told nowhere ∷ [])
     ∷ play single (hear 20 0 5 12 (packet 900 0 50 11) ∷ sweep 640005 ∷ sweep 640006 ∷ []) (heard 26 0 (via 20 2) ∷ total 0 ∷ total 1 ∷ [])
     ∷ play single (hear 20 0 5 12 (packet 900 0 50 10) ∷ sweep 640001 ∷ []) (heard 26 0 (via 20 1) ∷ total 1 ∷ [])
     -- another purge timeout
@@ -300,11 +300,11 @@ edges =
     ∷ row (makes (cellsNeeded 64) (makeArgs defaults 1 (1 ∷ []))) (0 ∷ [])
     ∷ row (makes (cellsNeeded 64 - 1) (makeArgs defaults 1 (1 ∷ []))) (12 ∷ [])
     ∷ row (makes (cellsNeeded 64 + 1) (makeArgs defaults 1 (1 ∷ []))) (12 ∷ [])
-    ∷ play single (make (makeArgs defaults 1 (1 ∷ [])) ∷ ask 900 ∷ []) ((12 ∷ []) ∷ told (via 20 1) ∷ [])
+    ∷ play single (make (makeArgs defaults 1 (1 ∷ [])) ∷ question 900 ∷ []) ((12 ∷ []) ∷ told (via 20 1) ∷ [])
     -- a refused call answers its number, the place for 8 and 0 in every other field, and writes nothing
     ∷ row (refuses (receive (record { packet = relayed; sender = 20; interface = 0; time = 0; output = 9 ∷ 9 ∷ [] })) 8 3) (8 ∷ 3 ∷ 0 ∷ 0 ∷ 0 ∷ 0 ∷ 0 ∷ 9 ∷ 9 ∷ [])
     ∷ row (refuses (own (record { interface = 1; time = 0; ttl = 3; gateway = 7; port = 258; hna = []; output = 9 ∷ 9 ∷ [] })) 8 3) (8 ∷ 3 ∷ 0 ∷ 0 ∷ 9 ∷ 9 ∷ [])
     ∷ row (refuses (sweep 7) 1 0) (1 ∷ 0 ∷ [])
-    ∷ row (refuses (ask 900) 1 0) (1 ∷ 0 ∷ 0 ∷ 0 ∷ 0 ∷ [])
+    ∷ row (refuses (question 900) 1 0) (1 ∷ 0 ∷ 0 ∷ 0 ∷ 0 ∷ [])
     ∷ row (refuses (list 900 (blank ∷ [])) 1 0) (1 ∷ 0 ∷ 9 ∷ 9 ∷ 9 ∷ 9 ∷ 0 ∷ [])
     ∷ []

@@ -1,5 +1,5 @@
 -- RULES 11, "Checked examples". A row asks a question and gives the answer that is due; one rule, `reply`, answers every question by the
--- table's words and the calls. P1 to P12 are one table of such rows, the edges of the rules (`Edges`) another.
+-- table's reading and the calls. P1 to P12 are one table of such rows, the edges of the rules (`Edges`) another.
 use Prim.Native.Nat.{ℕ, _+_, _*_}
 use mathlib.Core.Bool.{Bool, true, false, cond}
 use mathlib.Core.List.{List, [], _∷_, _++_, map}
@@ -16,36 +16,36 @@ use Rattle.rules.specs.declared.LinkRow.{LinkRow}
 use Rattle.rules.specs.declared.Route.{Route}
 use Rattle.rules.specs.Settings.{MakeArgs, Config}
 use Rattle.rules.specs.Calls.{linkOf, neighbourOf, Answer, made, received, written, swept, asked, listed, Call, make, receive, own, Reply, refusal}
-use Rattle.rules.specs.Rules.{Words, StateOf, fresh, step}
+use Rattle.rules.specs.Rules.{Reading, StateOf, fresh, step}
 use Rattle.rules.specs.Table.{TableRecord, TableState, rowDistance, table}
 use Rattle.rules.specs.WellFormed.{wellFormed}
 
-pub data Ask : Type 0 where
+pub data Case : Type 0 where
   -- does n lie inside the window? 1 or 0
-  lies : (W current n : ℕ) → Ask
+  lies : (W current n : ℕ) → Case
   -- is n a duplicate on a link with these marks? 1 or 0
-  again : (W current : ℕ) (marks : List ℕ) (n : ℕ) → Ask
+  again : (W current : ℕ) (marks : List ℕ) (n : ℕ) → Case
   -- a record whose links, by neighbour, have these marks; then n arrives through a neighbour that has a row:
   -- the current number then, the best neighbour, and for each link its neighbour, its count and its marked numbers from the lowest
-  arrives : (W current best : ℕ) (links : List (ℕ × List ℕ)) (neighbour n : ℕ) → Ask
+  arrives : (W current best : ℕ) (links : List (ℕ × List ℕ)) (neighbour n : ℕ) → Case
   -- a packet arrives, and no record is held: the flags and TTL octets of the copy, and every field of the answer
-  passes : (hasRow : Bool) (sender originator flags ttl : ℕ) → Ask
+  passes : (hasRow : Bool) (sender originator flags ttl : ℕ) → Case
   -- an interface that sent n, with a row that recorded m, sends once more: the number it sent last, the row's distance, and how many rows are left
-  sends : (B n m : ℕ) → Ask
+  sends : (B n m : ℕ) → Case
   -- version, TTL, number and originator of a packet
-  reads : (packet : List ℕ) → Ask
+  reads : (packet : List ℕ) → Case
   -- the packet check's answer
-  checks : (version : ℕ) (packet : List ℕ) → Ask
+  checks : (version : ℕ) (packet : List ℕ) → Case
   -- the answer to a make that is lent so many cells
-  makes : (cells : ℕ) → MakeArgs → Ask
+  makes : (cells : ℕ) → MakeArgs → Case
   -- calls one after the other on a table: every field of each answer
-  plays : TableState → List Call → Ask
+  plays : TableState → List Call → Case
   -- what a call leaves in what it was lent: the output's octets, or the fields of each row
-  leaves : TableState → Call → Ask
+  leaves : TableState → Call → Case
   -- every field of a refused call's answer, and what it leaves in what it was lent
-  refuses : Call → (number place : ℕ) → Ask
+  refuses : Call → (number place : ℕ) → Case
   -- is the table well-formed? 1 or 0
-  formed : TableState → Ask
+  formed : TableState → Case
 
 -- ---- the stage of the examples: two interfaces, with a broadcast address each; the first has sent number 5; a packet comes from originator 900, at time 0
 
@@ -116,11 +116,11 @@ abbrev pub lentShown : Reply → List ℕ
 lentShown x = x .output ++ rowsShown (x .rows)
 
 -- calls one after the other on a table of so many cells
-abbrev pub played : (W : Words) (cells : ℕ) → StateOf W → List Call → List ℕ
+abbrev pub played : (W : Reading) (cells : ℕ) → StateOf W → List Call → List ℕ
 played W n s [] = []
 played W n s (c ∷ cs) = answerShown (step W n s c .reply .answer) ++ played W n (step W n s c .state) cs
 
-abbrev pub reply : Ask → List ℕ
+abbrev pub reply : Case → List ℕ
 reply (lies W c n) = flag (inside W c n)
 reply (again W c ms n) = flag (table .duplicate (config (settings W 32 64)) (recordWith W c 20 0 ((20, ms) ∷ [])) (linkOf 20 0) n)
 reply (arrives W c b ls a n) =
@@ -184,11 +184,11 @@ joined (x ∷ xs) = x ++ joined xs
 -- ---- P1 to P12; A is neighbour 20, B is 30, C is 40
 
 pub record Row : Type 0 where
-  pub ask : Ask
+  pub poses : Case
   pub says : List ℕ
 
-abbrev pub row : Ask → List ℕ → Row
-row a s = record { ask = a; says = s }
+abbrev pub row : Case → List ℕ → Row
+row a s = record { poses = a; says = s }
 
 unfoldable pub examples : List Row
 examples =

@@ -1,4 +1,4 @@
--- docs/RULES.md as definitions: settings, calls, the rules once over a reading's words, and the table's reading.
+-- docs/RULES.md as definitions: settings, calls, the rules once over any reading, and the table's reading.
 pub mod Settings
 pub mod Calls
 pub mod Rules

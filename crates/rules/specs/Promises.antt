@@ -14,9 +14,9 @@ use Rattle.wire.specs.PassOn.{passedOn}
 use Rattle.wire.specs.Laws.{Copy}
 use Rattle.rules.specs.declared.Route.{Route}
 use Rattle.rules.specs.Calls.{received, written, receivedAs, writtenAs, ReceiveArgs, OwnArgs, numberOf}
-use Rattle.rules.specs.Rules.{Words, StateOf, OutcomeOf, linkBy, singleHop, ownHeader}
+use Rattle.rules.specs.Rules.{Reading, StateOf, OutcomeOf, linkBy, singleHop, ownHeader}
 
-module _ (W : Words) (s : StateOf W) where
+module _ (W : Reading) (s : StateOf W) where
   -- an own packet: just its length is written at the start of the output
   pub record OwnWritten (a : OwnArgs) (o : OutcomeOf W) : Type 0 where
     pub packet : List ℕ

@@ -16,8 +16,8 @@ use Rattle.wire.specs.Packet.{header, isU}
 use Rattle.wire.specs.Check.{given, firstOf, packetFault, writtenFault}
 use Rattle.wire.specs.PassOn.{flagsHere, flagsElsewhere, passedOn}
 use Rattle.rules.specs.Settings.{neighbourMost, linkMost, ttlLeast, makeAllowed, isInUse, isOwn, isBroadcast}
-use Rattle.rules.specs.Calls.{received, ReceiveArgs, Call, make, receive, own, sweep, ask, list, numberOf, isRefusal, isRuleRefusal, receivedAs, answeredWriting}
-use Rattle.rules.specs.Rules.{Words, StateOf, OutcomeOf, linkBy, singleHop, message, isEcho, isDuplicate, isFresh, isBestBy, ownPacket, routeOf, linkRows, refuse, begin, send, purge, answerBest, fillRows, step}
+use Rattle.rules.specs.Calls.{received, ReceiveArgs, Call, make, receive, own, sweep, question, list, numberOf, isRefusal, isRuleRefusal, receivedAs, answeredWriting}
+use Rattle.rules.specs.Rules.{Reading, StateOf, OutcomeOf, linkBy, singleHop, message, isEcho, isDuplicate, isFresh, isBestBy, ownPacket, routeOf, linkRows, refuse, begin, send, purge, answerBest, fillRows, step}
 
 -- the first of a list whose fact holds, or another
 abbrev pub firstThat : List (Bool × ℕ) → (other : ℕ) → ℕ
@@ -39,7 +39,7 @@ pub record Questions : Type 0 where
   -- no duplicate, or with the record's last TTL
   pub fresh : Bool
 
-module _ (W : Words) (s : StateOf W) (r : ReceiveArgs) (h : Header) where
+module _ (W : Reading) (s : StateOf W) (r : ReceiveArgs) (h : Header) where
   -- the originator's record, if one is held
   abbrev pub found : Option (W .Record)
   found = lookup (h .originator) (s .records)
@@ -129,7 +129,7 @@ module _ (W : Words) (s : StateOf W) (r : ReceiveArgs) (h : Header) where
 
 -- ---- every call
 
-module _ (W : Words) (cells : ℕ) (s : StateOf W) where
+module _ (W : Reading) (cells : ℕ) (s : StateOf W) where
   unfoldable pub facts : Call → List (Option Fault)
   facts (make a) = given (not (makeAllowed cells a)) 12 ∷ []
   facts (receive r) =
@@ -149,7 +149,7 @@ module _ (W : Words) (cells : ℕ) (s : StateOf W) where
       ∷ given (ltb (a .ttl) ttlLeast) 13
       ∷ []
   facts (sweep t) = given (ltb t (s .time)) 3 ∷ []
-  facts (ask o) = []
+  facts (question o) = []
   facts (list o lent) = given (ltb (length lent) (length (linkRows W (s .config) (lookup o (s .records))))) 4 ∷ []
 
   -- the outcome of a call that is not refused
@@ -158,7 +158,7 @@ module _ (W : Words) (cells : ℕ) (s : StateOf W) where
   outcome (receive r) = taken W s r (header (r .packet)) (questions W s r (header (r .packet)))
   outcome (own a) = send W s a (ownPacket (s .config) (s .sends) a)
   outcome (sweep t) = purge W s t
-  outcome (ask o) = answerBest W s (lookup o (s .records))
+  outcome (question o) = answerBest W s (lookup o (s .records))
   outcome (list o lent) = fillRows W s lent (linkRows W (s .config) (lookup o (s .records)))
 
   -- a call is refused by the first of its facts that holds, and then changes and writes nothing; its number is one of 2 to 13

@@ -1,5 +1,5 @@
 -- RULES 6, "Receiving", 7, "The other calls", and 8, "Refusals", said once.
--- What the rules ask of a state (duplicate, best, count, neighbour row ..) is a record of words. The table and the book each read them their way.
+-- What the rules ask of a state (duplicate, best, count, neighbour row ..) is a reading, a record of questions. The table and the book each read them their way.
 use Prim.Native.Nat.{ℕ, _+_, _-_, _%_}
 use mathlib.Core.Bool.{Bool, true, false, cond, _&&_, _||_, not}
 use mathlib.Core.Option.{Option, none, some}
@@ -18,9 +18,9 @@ use Rattle.rules.specs.declared.Route.{Route}
 use Rattle.rules.specs.declared.LinkRow.{LinkRow}
 use Rattle.rules.specs.declared.Ogm.{Ogm}
 use Rattle.rules.specs.Settings.{neighbourMost, linkMost, ttlLeast, MakeArgs, Config, configOf, makeAllowed, interfaceAt, isInUse, isOwn, isBroadcast}
-use Rattle.rules.specs.Calls.{linkOf, neighbourOf, interfaceOf, noRoute, made, received, written, swept, asked, listed, receivedAs, writtenAs, ReceiveArgs, OwnArgs, Call, make, receive, own, sweep, ask, list, Reply, answered, answeredWriting, answeredFilling, refusal}
+use Rattle.rules.specs.Calls.{linkOf, neighbourOf, interfaceOf, noRoute, made, received, written, swept, asked, listed, receivedAs, writtenAs, ReceiveArgs, OwnArgs, Call, make, receive, own, sweep, question, list, Reply, answered, answeredWriting, answeredFilling, refusal}
 
--- ---- words
+-- ---- readings
 
 -- the number of a counted OGM, as two octets have it
 abbrev pub sequenceOf : Ogm → ℕ
@@ -50,7 +50,7 @@ abbrev pub sendOn : Config → Sends → ℕ → Sends
 sendOn κ ns i = put i (nextNumber κ ns i) ns
 
 -- what the rules ask of a table or a book (RULES 1.4)
-pub record Words : Type 1 where
+pub record Reading : Type 1 where
   -- an originator's record
   pub Record : Type 0
   -- the first counted OGM makes it
@@ -182,7 +182,7 @@ ownPacket κ ns a = packetOf (ownHeader κ ns a) (a .hna)
 
 -- ---- the calls, of any reading
 
-module _ (W : Words) where
+module _ (W : Reading) where
   abbrev pub StateOf : Type 0
   StateOf = State (W .Rows) (W .Record)
 
@@ -347,7 +347,7 @@ module _ (W : Words) where
       let p = ownPacket (s .config) (s .sends) a in
       unless (ownFault (s .config) (s .time) a p) (refuse (own a) s) (send s a p)
   step cells s (sweep t) = unless (given (ltb t (s .time)) 3) (refuse (sweep t) s) (purge s t)
-  step cells s (ask o) = answerBest s (lookup o (s .records))
+  step cells s (question o) = answerBest s (lookup o (s .records))
   step cells s (list o lent) =
       let rs = linkRows (s .config) (lookup o (s .records)) in
       -- fewer rows than links

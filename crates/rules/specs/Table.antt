@@ -1,4 +1,4 @@
--- The table's words: a record with a word of marks for each held link, and a recorded number for each neighbour row. (RULES 5.1, 5.2)
+-- The table's reading: a record with a word of marks for each held link, and a recorded number for each neighbour row. (RULES 5.1, 5.2)
 use Prim.Native.Nat.{ℕ}
 use mathlib.Core.Bool.{Bool, cond, _&&_, _||_, not}
 use mathlib.Core.List.{List, []}
@@ -10,7 +10,7 @@ use Rattle.window.specs.Window.{distance, inside, advance, marked, shift, mark,
 use Rattle.rules.specs.Settings.{Config}
 use Rattle.rules.specs.Calls.{interfaceOf}
 use Rattle.rules.specs.declared.Ogm.{Ogm}
-use Rattle.rules.specs.Rules.{sequenceOf, notHigher, Sends, lastSent, Words, State}
+use Rattle.rules.specs.Rules.{sequenceOf, notHigher, Sends, lastSent, Reading, State}
 
 -- ---- records
 
@@ -94,7 +94,7 @@ dropOld κ ns i rs = keep (λ (e : ℕ × ℕ). not (eqb (interfaceOf (e .0)) i)
 
 -- ---- the table
 
-abbrev pub table : Words
+abbrev pub table : Reading
 table =
     record {
       Record = TableRecord;

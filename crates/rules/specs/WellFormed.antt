@@ -9,7 +9,7 @@ use Rattle.lists.specs.Lists.{and, all}
 use Rattle.lists.specs.Keyed.{hasKey, rising}
 use Rattle.window.specs.Window.{hasMark}
 use Rattle.rules.specs.Settings.{Config, allowed, neighbourMost, linkMost, within, isOctet, isAddress, isNumber, isTime, isInUse, isOwn}
-use Rattle.rules.specs.Calls.{neighbourOf, interfaceOf, ReceiveArgs, Call, make, receive, own, sweep, ask, list}
+use Rattle.rules.specs.Calls.{neighbourOf, interfaceOf, ReceiveArgs, Call, make, receive, own, sweep, question, list}
 use Rattle.rules.specs.Rules.{Sends, hasSent}
 use Rattle.rules.specs.Table.{TableRecord, TableState, rowDistance}
 
@@ -81,5 +81,5 @@ typed (make a) = true
 typed (receive r) = and (receiveTypes r)
 typed (own a) = isTime (a .time)
 typed (sweep t) = isTime t
-typed (ask o) = true
+typed (question o) = true
 typed (list o rs) = true

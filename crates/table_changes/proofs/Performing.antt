@@ -10,7 +10,7 @@ use Rattle.rules.specs.Calls.{Call, Reply, refusal}
 use Rattle.rules.specs.Rules.{Outcome, branch, refuse, step}
 use Rattle.rules.specs.Table.{TableRows, TableRecord, table}
 use Rattle.table_layout.specs.Cells.{encode, decode, wellFormed}
-use Rattle.table_layout.specs.Calls.{Done, stepped, refused, asks, unasked, callOn, Performed}
+use Rattle.table_layout.specs.Calls.{Done, stepped, refused, meets, unmet, callOn, Performed}
 use Rattle.table_layout.proofs.Encoding.{encode-decode}
 
 module _ (c : List ℕ) (call : Call) where
@@ -18,11 +18,11 @@ module _ (c : List ℕ) (call : Call) where
   by-branch d e reply cells er ec = record { replies = er ∙ ap (λ (x : Done). x .reply) (sym e); leaves = ec ∙ ap (λ (x : Done). x .cells) (sym e) }
 
   -- the cells are not what the call asks: nothing is changed
-  pub not-asked : asks c call ≡ false → Performed c call (refusal call (numbered (unasked call))) c
+  pub not-asked : meets c call ≡ false → Performed c call (refusal call (numbered (unmet call))) c
   unfolding callOn branch
-  not-asked e = by-branch (refused c call (unasked call)) (rw e) _ _ refl refl
+  not-asked e = by-branch (refused c call (unmet call)) (rw e) _ _ refl refl
 
-  module _ (asked : asks c call ≡ true) where
+  module _ (asked : meets c call ≡ true) where
     taken : callOn c call ≡ stepped c call
     unfolding callOn branch
     taken = rw asked

@@ -10,12 +10,12 @@ use Rattle.rules.specs.Table.{TableState, table}
 use Rattle.rules.specs.WellFormed as R
 use Rattle.rules.proofs.WellFormed.{wellFormed-step}
 use Rattle.table_layout.specs.Cells.{decode, wellFormed}
-use Rattle.table_layout.specs.Calls.{asks, unasked, refused, stepped, callOn}
+use Rattle.table_layout.specs.Calls.{meets, unmet, refused, stepped, callOn}
 use Rattle.table_layout.proofs.Encoding.{laws}
 
 pub stays : (c : List ℕ) (call : Call) → R.typed call ≡ true → wellFormed c ≡ true → wellFormed (callOn c call .cells) ≡ true
 unfolding callOn branch
-stays c call t w = go (asks c call)
+stays c call t w = go (meets c call)
   where
     s : TableState
     s = step table (length c) (decode c) call .state
@@ -23,6 +23,6 @@ stays c call t w = go (asks c call)
     after : R.wellFormed s ≡ true
     after = wellFormed-step (length c) (decode c) (laws .table c w) call t
 
-    go : (b : Bool) → wellFormed (branch b (stepped c call) (refused c call (unasked call)) .cells) ≡ true
+    go : (b : Bool) → wellFormed (branch b (stepped c call) (refused c call (unmet call)) .cells) ≡ true
     go true = laws .encoded s after
     go false = w

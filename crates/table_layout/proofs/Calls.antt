@@ -5,13 +5,13 @@ use mathlib.Core.Bool.{Bool, true, false}
 use Prim.Native.Nat.{ℕ}
 use Rattle.rules.specs.Calls.{Call}
 use Rattle.rules.specs.Rules.{branch}
-use Rattle.table_layout.specs.Calls.{asks, unasked, refused, stepped, callOn}
+use Rattle.table_layout.specs.Calls.{meets, unmet, refused, stepped, callOn}
 
 module _ (c : List ℕ) (call : Call) where
-  pub goes-on : asks c call ≡ true → callOn c call ≡ stepped c call
+  pub goes-on : meets c call ≡ true → callOn c call ≡ stepped c call
   unfolding callOn branch
-  goes-on h = ap (λ (b : Bool). branch b (stepped c call) (refused c call (unasked call))) h
+  goes-on h = ap (λ (b : Bool). branch b (stepped c call) (refused c call (unmet call))) h
 
-  pub turned-away : asks c call ≡ false → callOn c call ≡ refused c call (unasked call)
+  pub turned-away : meets c call ≡ false → callOn c call ≡ refused c call (unmet call)
   unfolding callOn branch
-  turned-away h = ap (λ (b : Bool). branch b (stepped c call) (refused c call (unasked call))) h
+  turned-away h = ap (λ (b : Bool). branch b (stepped c call) (refused c call (unmet call))) h

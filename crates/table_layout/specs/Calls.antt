@@ -7,7 +7,7 @@ use Prim.Native.Nat.{ℕ}
 use lib.ListN.{length}
 use Rattle.lists.specs.Lists.{maybe}
 use Rattle.rules.specs.Settings.{MakeArgs, makeAllowed}
-use Rattle.rules.specs.Calls.{Call, make, receive, own, sweep, ask, list, Reply, refusal}
+use Rattle.rules.specs.Calls.{Call, make, receive, own, sweep, question, list, Reply, refusal}
 use Rattle.rules.specs.Rules.{branch, step}
 use Rattle.rules.specs.Table.{table}
 use Rattle.rules.specs.WellFormed.{typed}
@@ -32,19 +32,19 @@ makeOf (make a) = some a
 makeOf (receive r) = none
 makeOf (own a) = none
 makeOf (sweep t) = none
-makeOf (ask o) = none
+makeOf (question o) = none
 makeOf (list o rs) = none
 
 -- what a call asks of the cells: make, only that they are as many as it needs; every other, that they are a well-formed table's (RULES 8.2)
-abbrev pub asks : List ℕ → Call → Bool
-asks c call = maybe (makeOf call) (wellFormed c) (λ a. makeAllowed (length c) a)
+abbrev pub meets : List ℕ → Call → Bool
+meets c call = maybe (makeOf call) (wellFormed c) (λ a. makeAllowed (length c) a)
 
 -- the refusal where they are not
-abbrev pub unasked : Call → ℕ
-unasked call = maybe (makeOf call) 1 (λ a. 12)
+abbrev pub unmet : Call → ℕ
+unmet call = maybe (makeOf call) 1 (λ a. 12)
 
 unfoldable pub callOn : List ℕ → Call → Done
-callOn c call = branch (asks c call) (stepped c call) (refused c call (unasked call))
+callOn c call = branch (meets c call) (stepped c call) (refused c call (unmet call))
 
 -- ---- what a call promises, whatever it is lent (RULES 13.1)
 

@@ -29,12 +29,12 @@ module _ (n : ℕ) (c : List ℕ) (h : RowsHeld n c) where
   pub size : length c ≡ neighbourAreaCells
   size = ap length (h .cells) ∙ length-area pairRow pairCells pair-wide neighbourMost (pairsOf n c)
 
-  pub asks : Sorted pairCells n c
-  asks = sorted pairOf (λ r. refl) pairCells n c (omega arith) (omega (arith, size, h .most)) (h .rises)
+  pub meets : Sorted pairCells n c
+  meets = sorted pairOf (λ r. refl) pairCells n c (omega arith) (omega (arith, size, h .most)) (h .rises)
 
   module _ (k i : ℕ) where
     pub present : IsAt (column pairCells n c) k i → hasKey k (pairsOf n c) ≡ true
-    present p = ap (λ (x : Option ℕ). maybe x false (λ v. true)) (found-at pairOf (λ r. refl) pairCells n c asks k i p .found (0, 0))
+    present p = ap (λ (x : Option ℕ). maybe x false (λ v. true)) (found-at pairOf (λ r. refl) pairCells n c meets k i p .found (0, 0))
 
     pub missing : IsPlace (column pairCells n c) k i → hasKey k (pairsOf n c) ≡ false
     missing p = ap (λ (x : Option ℕ). maybe x false (λ v. true)) (found-place pairOf (λ r. refl) pairCells n c k i p .missing)
@@ -51,7 +51,7 @@ module _ (n : ℕ) (c : List ℕ) (h : RowsHeld n c) where
       recorded-over p e =
           let l : i < length (pairsOf n c) = omega (arith, length-pairs n c, at-below pairCells n c k i p) in
           let room : length (pairsOf n c) ≤ neighbourMost = omega (arith, length-pairs n c, h .most) in
-          let q : put k number (pairsOf n c) ≡ set (pairsOf n c) i (k, number) = put-among k i number (pairsOf n c) l (found-at pairOf (λ r. refl) pairCells n c asks k i p) in
+          let q : put k number (pairsOf n c) ≡ set (pairsOf n c) i (k, number) = put-among k i number (pairsOf n c) l (found-at pairOf (λ r. refl) pairCells n c meets k i p) in
           record {
             room = inl (present p);
             cells = e ∙ ap (λ (x : List ℕ). written x (i * pairCells) (k ∷ number ∷ [])) (h .cells)

@@ -2,14 +2,14 @@
 use borrow.Author.Needs.{needs}
 use lib.ListN.{length-set}
 use denote.Ref.{now}
-use Rattle.call_sweep.proofs.Steps.{asks, swept-all}
+use Rattle.call_sweep.proofs.Steps.{meets, swept-all}
 use Rattle.call_sweep.proofs.sweep_records.Statement.{statement}
 use Rattle.call_sweep.proofs.sweep_records.Tie as tie
 
 keep-recent-requires : tie.Need-keep-recent-requires
 keep-recent-requires c κs =
     let s = c .before .before .before .before in
-    asks (now (s .args .cells)) (s .pre .0) (s .args .time) (s .pre .1)
+    meets (now (s .args .cells)) (s .pre .0) (s .args .time) (s .pre .1)
 
 slice-write-cells-2 : tie.Need-slice-write-cells-2
 slice-write-cells-2 c = simp length-set (search needs)

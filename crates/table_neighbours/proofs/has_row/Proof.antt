@@ -8,12 +8,12 @@ use Rattle.cells.specs.declared.Found.{Found}
 use Rattle.cells.specs.Area.{column}
 use Rattle.cells.specs.Pairs.{pairCells}
 use Rattle.cells.specs.Find.{FoundIn}
-use Rattle.table_neighbours.proofs.Rows.{asks, present, missing}
+use Rattle.table_neighbours.proofs.Rows.{meets, present, missing}
 use Rattle.table_neighbours.proofs.has_row.Statement.{statement}
 use Rattle.table_neighbours.proofs.has_row.Tie as tie
 
 find-requires : tie.Need-find-requires
-find-requires c κs = asks _ _ (c .before .pre)
+find-requires c κs = meets _ _ (c .before .pre)
 
 returns : tie.Need-returns
 returns c =

@@ -9,12 +9,12 @@ use Rattle.cells.specs.Area.{column}
 use Rattle.cells.specs.Pairs.{pairCells}
 use Rattle.cells.specs.Find.{FoundIn, IsAt, IsPlace}
 use Rattle.rules.specs.Settings.{neighbourMost}
-use Rattle.table_neighbours.proofs.Rows.{asks, size, at-room, place-room, recorded-over, recorded-new, no-room}
+use Rattle.table_neighbours.proofs.Rows.{meets, size, at-room, place-room, recorded-over, recorded-new, no-room}
 use Rattle.table_neighbours.proofs.record_echo.Statement.{statement}
 use Rattle.table_neighbours.proofs.record_echo.Tie as tie
 
 find-requires : tie.Need-find-requires
-find-requires c κs = asks _ _ (c .before .before .pre)
+find-requires c κs = meets _ _ (c .before .before .pre)
 
 -- ---- places: the function's entry, from the search; the search, from where its result is taken apart
 
