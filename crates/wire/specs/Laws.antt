@@ -18,7 +18,7 @@ pub record ReadsBack (h : Header) (e : List ℕ) : Type 0 where
   -- the packet check finds of it what is asked before it is written
   pub check : packetFault (h .version) (packetOf h e) ≡ writtenFault e
 
--- which is nothing exactly if the entries are few enough and whole, and no mask is above 32
+-- which is nothing if the entries are few enough and whole, and no mask is above 32 (`allowed` proves this direction)
 pub record Allowed (e : List ℕ) : Type 0 where
   pub few : headerSize + length e ≤ packetMost
   pub whole : length e ≡ entrySize * entries e
