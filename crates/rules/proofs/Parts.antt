@@ -51,11 +51,11 @@ module _ (κ : Config) (now : ℕ) (e : ℕ × TableRecord) where
       let links = and-at (linksTests κ (e .1 .best) (e .1 .links)) (and-at (recordTests κ now e) h 1) in
       record {
         address = fields 0;
-        few = fields 1;
-        foreign = fields 2;
-        current = fields 3;
-        time = fields 4;
-        ttl = fields 5;
+        foreign = fields 1;
+        current = fields 2;
+        time = fields 3;
+        ttl = fields 4;
+        few = fields 5;
         rise = links 0;
         each = links 1;
         best = links 2;
@@ -63,7 +63,7 @@ module _ (κ : Config) (now : ℕ) (e : ℕ × TableRecord) where
 
   pub record-whole : Entry κ now e → and (recordTests κ now e) ≡ true
   record-whole p =
-      let fields : and (fieldTests κ now e) ≡ true = and-each (also (p .address) (also (p .few) (also (p .foreign) (also (p .current) (also (p .time) (also (p .ttl) end)))))) in
+      let fields : and (fieldTests κ now e) ≡ true = and-each (also (p .address) (also (p .foreign) (also (p .current) (also (p .time) (also (p .ttl) (also (p .few) end)))))) in
       let links : and (linksTests κ (e .1 .best) (e .1 .links)) ≡ true = and-each (also (p .rise) (also (p .each) (also (p .best) end))) in
       and-each {ts = recordTests κ now e} (also fields (also links end))
 

@@ -36,15 +36,15 @@ linkTests κ b e =
     ∷ (hasMark (e .1) || eqb (e .0) b)
     ∷ []
 
--- an originator has 1 to 8 links and is no own address; its time is not after the table's
+-- an originator is no own address and has 1 to 8 links; its time is not after the table's
 abbrev pub fieldTests : Config → (now : ℕ) → ℕ × TableRecord → List Bool
 fieldTests κ now e =
     isAddress (e .0)
-    ∷ within 1 linkMost (length (e .1 .links))
     ∷ not (isOwn κ (e .0))
     ∷ isNumber (e .1 .current)
     ∷ leb (e .1 .time) now
     ∷ isOctet (e .1 .lastTtl)
+    ∷ within 1 linkMost (length (e .1 .links))
     ∷ []
 
 -- its links rise strictly by the pair; exactly one is best

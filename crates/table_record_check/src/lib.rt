@@ -67,7 +67,7 @@ fn link_ok(limits: Limits, best: u64, low: u64, pair: u64, marks: Marks) -> bool
     marks_ok(limits.window, best, pair, marks)
 }
 
-// Whether the links may be held: each by itself, rising by the pair, best among them.
+// Whether the links may be held: each by itself, rising by the pair, best among them. Where the loop breaks off some are left, so nothing is kept of where.
 fn links_ok(part: &[u64], n: usize, limits: Limits, best: u64) -> bool
     requires { ⌜ (n * linkCells ≤ length (now part)) × Windowed limits ⌝ }
     ensures { λ r. ⌜ ((κ : Config) (time : ℕ) → Describes κ time limits → r ≡ linksOk κ best (linksFrom n (now (part .entry)))) ⌝ }
@@ -75,7 +75,8 @@ fn links_ok(part: &[u64], n: usize, limits: Limits, best: u64) -> bool
     let mut low: u64 = 0;
     let mut held = false;
     let mut i = 0;
-    while i < n {
+    let mut left = n;
+    while 0 < left {
         let pair = key_at(part, i);
         if !link_ok(limits, best, low, pair, marks_at(part, i)) {
             break;
@@ -83,11 +84,12 @@ fn links_ok(part: &[u64], n: usize, limits: Limits, best: u64) -> bool
         held = held | (best == pair);
         low = pair + 1;
         i += 1;
+        left -= 1;
     }
-    (i == n) & held
+    (left == 0) & held
 }
 
-// Whether the fields before the links are in their ranges, where addresses below `low` are passed.
+// Whether the fields before the links are in their ranges, where addresses below `low` are passed. They are read as the cells lie.
 fn fields_ok(row: &[u64], low: u64, limits: Limits) -> bool
     requires { ⌜ length (now row) ≡ recordCells ⌝ }
     ensures { λ r. ⌜ FieldsChecked limits low (now (row .entry)) r ⌝ }
@@ -96,10 +98,10 @@ fn fields_ok(row: &[u64], low: u64, limits: Limits) -> bool
     let links = row[LINKS];
     (low <= address)
         & ((address < ADDRESSES)
-            & (((1 <= links) & (links <= LINKS_MOST))
-                & (!is_own(limits, address)
-                    & ((row[CURRENT] < NUMBERS)
-                        & ((row[TIME] <= limits.time) & (row[LAST_TTL] < OCTETS))))))
+            & (!is_own(limits, address)
+                & ((row[CURRENT] < NUMBERS)
+                    & ((row[TIME] <= limits.time)
+                        & ((row[LAST_TTL] < OCTETS) & ((1 <= links) & (links <= LINKS_MOST)))))))
 }
 
 // Whether the cells are those of a record by the rules, where addresses below `low` are passed.

@@ -44,15 +44,15 @@ ghost use Rattle.table_layout.specs.Cells.{settingsIn};
 ghost use Rattle.table_settings.specs.Check.{headOk, interfaceRowOk, interfacesOk};
 ghost use Rattle.table_layout.specs.Facts.{Sized};
 
-// Whether the settings are allowed.
+// Whether the settings are allowed. Nested to the right, the tests are left at the first that fails; in a row they are all computed.
 pub fn settings_ok(s: Settings) -> bool
     ensures { λ r. ⌜ r ≡ settingsOk s ⌝ }
 {
     (s.version <= VERSION_MOST)
-        & ((1 <= s.window) & (s.window <= WINDOW_MOST))
-        & ((1 <= s.timeout) & (s.timeout <= TIMEOUT_MOST))
-        & ((1 <= s.purge) & (s.purge <= PURGE_MOST))
-        & ((1 <= s.capacity) & (s.capacity <= CAPACITY_MOST))
+        & (((1 <= s.window) & (s.window <= WINDOW_MOST))
+            & (((1 <= s.timeout) & (s.timeout <= TIMEOUT_MOST))
+                & (((1 <= s.purge) & (s.purge <= PURGE_MOST))
+                    & ((1 <= s.capacity) & (s.capacity <= CAPACITY_MOST)))))
 }
 
 // Whether the first `used` of four addresses differ.
@@ -103,11 +103,9 @@ fn interface_row_ok(row: &[u64]) -> bool
     let sent = row[SENT];
     let last = row[LAST];
     (row[OWN] < ADDRESSES)
-        & (row[BROADCAST] < ADDRESSES)
-        & (row[FIRST] < NUMBERS)
-        & (sent <= 1)
-        & (last < NUMBERS)
-        & ((sent == 1) | (last == 0))
+        & ((row[BROADCAST] < ADDRESSES)
+            & ((row[FIRST] < NUMBERS)
+                & ((sent <= 1) & ((last < NUMBERS) & ((sent == 1) | (last == 0))))))
 }
 
 // Whether the rows of the interfaces in use are in their ranges, and the others zero.

@@ -26,11 +26,12 @@ returns c =
     let own = o .is-own in
     record {
       small = λ h. ltb-true address addresses (and-left (isAddress address) _ (and-right (leb (a .low) address) _ h));
-      few = λ h. leb-true n linkMost (and-right (leb 1 n) _ (and-left (within 1 linkMost n) _ (and-right (isAddress address) _ (and-right (leb (a .low) address) _ h))));
+      few = λ h. leb-true n linkMost (and-right (leb 1 n) _ (and-right (isOctet (getD row lastTtlAt 0)) _ (and-right (leb (getD row timeAt 0) (a .limits .time)) _
+          (and-right (isNumber (getD row currentAt 0)) _ (and-right (not (own .result)) _ (and-right (isAddress address) _ (and-right (leb (a .low) address) _ h)))))));
       tests = λ κ time d.
           let mine = own .ensures ∙ d .own address in
           let held = sym (length-links n (linksPart row)) in
-          λ i. leb (a .low) address && (isAddress address && (within 1 linkMost (held i) && (not (mine i) && (isNumber (getD row currentAt 0) && (leb (getD row timeAt 0) (d .time i) && sym (and-true (isOctet (getD row lastTtlAt 0))) i)))));
+          λ i. leb (a .low) address && (isAddress address && (not (mine i) && (isNumber (getD row currentAt 0) && (leb (getD row timeAt 0) (d .time i) && (isOctet (getD row lastTtlAt 0) && sym (and-true (within 1 linkMost (held i))) i)))));
     }
 
 pub fields-ok-spec : {M : Type 1} → statement M
