@@ -1,13 +1,14 @@
 -- Messages of other nodes: what each end leaves. Assumes nothing.
 use mathlib.Core.Path.{_≡_, refl, sym, ap, ap₂, _∙_, subst}
-use mathlib.Core.Bool.{Bool, true, false, _&&_, _||_, not}
+use mathlib.Core.Bool.{Bool, true, false, cond, _&&_, not}
 use mathlib.Core.Option.{Option, none, some}
 use mathlib.Core.List.{List}
 use Prim.Native.Nat.{ℕ, _≤_, _<_}
 use native.Mathlib.Omega.{arith}
-use lib.Dec.{eqb}
 use lib.ListN.{length, getD}
+use borrow.Author.Tests.{leb-true, leb-false}
 use Rattle.lists.specs.Keyed.{lookup, hasKey, put}
+use Rattle.lists.proofs.Tests.{and-left, and-right}
 use Rattle.wire.specs.Packet.{header}
 use Rattle.wire.specs.Check.{numbered}
 use Rattle.rules.specs.declared.Ogm.{Ogm}
@@ -15,20 +16,20 @@ use Rattle.rules.specs.declared.Received.{Received}
 use Rattle.rules.specs.declared.Route.{Route}
 use Rattle.rules.specs.Settings.{linkMost}
 use Rattle.rules.specs.Calls.{ReceiveArgs, receive, noRoute}
-use Rattle.rules.specs.Rules.{sequenceOf, message, isBestBy, isDuplicate, isFresh, routeOf, refuse, decide}
-use Rattle.rules.specs.Table.{TableRecord, TableState, firstRecord, nextRecord, isMarked, table}
+use Rattle.rules.specs.Rules.{message, isBestBy, isDuplicate, isFresh, routeOf, refuse, decide}
+use Rattle.rules.specs.Table.{TableRecord, TableState, firstRecord, nextRecord, table}
 use Rattle.table_layout.specs.Layout.{capacityAt, recordsAt}
 use Rattle.table_layout.specs.Cells.{encode, decode}
-use Rattle.count_in_record.specs.declared.Counting.the-variants.{Done, LinksFull}
+use Rattle.count_in_record.specs.declared.Answer.{Answer}
 use Rattle.count_in_record.specs.declared.Heard.{Heard}
-use Rattle.count_in_record.specs.Counting.{isCounted}
+use Rattle.count_in_record.specs.declared.Heard.the-variants as H
+use Rattle.count_in_record.specs.Counting.{hasRoom, isRepeated, isFreshIn, isCounted, isTaken, Answers}
 use Rattle.table_changes.specs.Changes.{withRecords}
 use Rattle.table_originators.specs.Originators.{Stands, Missing, standingAt, HeardAt, Made}
 use Rattle.table_originators.proofs.Changed.{records-count}
-use Rattle.table_originators.proofs.Heard.{not-counted, counted-done, links-full}
 use Rattle.call_receive_arrival.specs.declared.Arrival.{Arrival}
 use Rattle.call_receive_arrival.specs.Receiving.{callOf, after, Leaves, Concluded, Fits, Decides}
-use Rattle.call_receive_arrival.proofs.Ways.{holding, way-kept, way-11, way-next, way-10, way-first}
+use Rattle.call_receive_arrival.proofs.Ways.{holding, concludes, way-kept, way-11, way-next, way-10, way-first}
 use Rattle.call_receive_arrival.proofs.Endings.{message-is, link-is, originator-is, concludes-left}
 
 module _ {c p o : List ℕ} {m : Arrival} {b : Bool} (w : Decides c p o m b) where
@@ -102,34 +103,46 @@ module _ {c p o : List ℕ} {m : Arrival} {b : Bool} (w : Decides c p o m b) whe
     fresh : Bool
     fresh = isFresh table (s .config) a (header p) (some x)
 
-    fresh-is : g .fresh ≡ fresh
+    fresh-is : isFreshIn (s .config) (m .ogm) x ≡ fresh
     unfolding fresh
-    fresh-is = h .answers .fresh ∙ ap (λ (n : Ogm). not (isMarked (s .config) x (n .link) (sequenceOf n)) || eqb (n .ttl) (x .lastTtl)) (message-is f)
+    fresh-is = ap (λ (n : Ogm). isFreshIn (s .config) n x) (message-is f)
 
     -- the rules come to the record's answers
     by-standing : after c p o m ≡ decide table s a (header p) b (some x)
     by-standing = by-record (some x) (at .found)
 
-    pub again-full : g .counting ≡ LinksFull → after c p o m ≡ refuse table (receive a) s (numbered 11)
+    -- what becomes of it, and the cells, by whether the next record takes its place
+    answers : {v : Heard} → g ≡ v → Answers (s .config) (m .ogm) b x v
+    answers e = subst (Answers (s .config) (m .ogm) b x) e (h .answers)
+
+    left : {t : Bool} → isTaken (s .config) (m .ogm) b x ≡ t → d ≡ cond t (encode (withRecords (put (m .originator) (next (m .ogm)) (s .records)) s)) c
+    left e = h .cells ∙ ap (λ (t : Bool). cond t (encode (withRecords (put (m .originator) (next (m .ogm)) (s .records)) s)) c) e
+
+    pub again-full : g ≡ H.LinksFull → after c p o m ≡ refuse table (receive a) s (numbered 11)
     again-full e =
-        let l = links-full h e in
-        by-standing ∙ way-11 s a (header p) x b (sym counted-is ∙ l .counted) (subst (λ (n : Ogm). linkMost < length (next n .links)) (message-is f) (l .many))
+        let l = answers e in
+        by-standing
+        ∙ way-11 s a (header p) x b (sym counted-is ∙ l .0) (subst (λ (n : Ogm). linkMost < length (next n .links)) (message-is f) (leb-false (length (next (m .ogm) .links)) linkMost (l .1)))
 
-    pub again-same : g .counting ≡ LinksFull → d ≡ c
-    again-same e = links-full h e .cells
+    pub again-same : g ≡ H.LinksFull → d ≡ c
+    again-same e = let l = answers e in left (λ j. l .0 j && l .1 j)
 
-    pub again-done : g .counting ≡ Done → {e q : List ℕ} {r : Received} → Concluded d p o m b (b && (g .best && g .fresh)) (g .route) e q r → Leaves e q r (after c p o m)
+    pub again-counted : {v : Answer} → g ≡ H.Counted v → {e q : List ℕ} {r : Received} → Concluded d p o m true (v .best && v .fresh) (v .route) e q r → Leaves e q r (after c p o m)
     unfolding fresh
-    again-done ed {e} {q} {r} k = go (isCounted (s .config) (m .ogm) b x) refl
-      where
-        go : (t : Bool) → isCounted (s .config) (m .ogm) b x ≡ t → Leaves e q r (after c p o m)
-        go true et =
-            let w = counted-done h et ed in
-            let y = next (message a (header p)) in
-            concludes-left f (holding s (header p) y) b fresh (some y)
-            (by-standing ∙ way-next s a (header p) x b (sym counted-is ∙ et) (subst (λ (n : Ogm). length (next n .links) ≤ linkMost) (message-is f) (w .0)))
-            (held next (w .1 .cells)) (λ j. b && (best-by next (w .1 .best) j && fresh-is j)) (route-by next (w .1 .route)) k
-        go false et =
-            let w = not-counted h et in
-            concludes-left f s b fresh (some x) (by-standing ∙ way-kept s a (header p) b (some x) (sym counted-is ∙ et)) (w .cells ∙ same)
-            (λ j. b && (best-by (λ n. x) (w .best) j && fresh-is j)) (w .route) k
+    again-counted {v} eg k =
+        let l = answers eg in
+        let y = next (message a (header p)) in
+        let counted = and-left (isCounted (s .config) (m .ogm) b x) (hasRoom (next (m .ogm))) (l .0) in
+        let room = and-right (isCounted (s .config) (m .ogm) b x) (hasRoom (next (m .ogm))) (l .0) in
+        let by : b ≡ true = and-left b (not (isRepeated (s .config) (m .ogm) x)) counted in
+        concludes-left f (holding s (header p) y) true fresh (some y)
+        (by-standing ∙ way-next s a (header p) x b (sym counted-is ∙ counted) (subst (λ (n : Ogm). length (next n .links) ≤ linkMost) (message-is f) (leb-true (length (next (m .ogm) .links)) linkMost room))
+        ∙ ap (λ (t : Bool). concludes (holding s (header p) y) a (header p) t fresh (some y)) by)
+        (held next (left (l .0))) (λ j. best-by next (l .1 .best) j && (l .1 .fresh ∙ fresh-is) j) (route-by next (l .1 .route)) k
+
+    pub again-kept : {v : Answer} → g ≡ H.Uncounted v → {e q : List ℕ} {r : Received} → Concluded d p o m b (b && (v .best && v .fresh)) (v .route) e q r → Leaves e q r (after c p o m)
+    unfolding fresh
+    again-kept {v} eg k =
+        let l = answers eg in
+        concludes-left f s b fresh (some x) (by-standing ∙ way-kept s a (header p) b (some x) (sym counted-is ∙ l .0)) (left (λ j. l .0 j && hasRoom (next (m .ogm))) ∙ same)
+        (λ j. b && (best-by (λ n. x) (l .1 .best) j && (l .1 .fresh ∙ fresh-is) j)) (l .1 .route) k

@@ -4,7 +4,7 @@ use call_receive_arrival::Arrival;
 use call_receive_arrival::conclude;
 use call_receive_arrival::refused;
 use cells::Found;
-use count_in_record::Counting;
+use count_in_record::Heard;
 use rules::Received;
 use table_layout::CAPACITY;
 use table_layout::NEIGHBOURS_FROM;
@@ -58,12 +58,16 @@ fn heard_again(
 {
     let ogm = m.ogm;
     let heard = hear_at(cells, i, ogm, bidirectional);
-    let counting = heard.counting;
-    match counting {
-        Counting::LinksFull => refused(refusal(LINKS_FULL)),
-        Counting::Done => {
-            let best = bidirectional & (heard.best & heard.fresh);
-            let route = heard.route;
+    match heard {
+        Heard::LinksFull => refused(refusal(LINKS_FULL)),
+        Heard::Counted(a) => {
+            let best = a.best & a.fresh;
+            let route = a.route;
+            conclude(cells, packet, out, m, true, best, route)
+        }
+        Heard::Uncounted(a) => {
+            let best = bidirectional & (a.best & a.fresh);
+            let route = a.route;
             conclude(cells, packet, out, m, bidirectional, best, route)
         }
     }

@@ -1,28 +1,31 @@
 -- What a message leaves is again a record's row, so that it can be asked for its route. Assumes nothing.
 use mathlib.Core.Path.{_≡_, refl, sym, ap, _∙_, subst}
-use mathlib.Core.Bool.{Bool, true, false, cond}
+use mathlib.Core.Bool.{Bool, true, cond}
 use mathlib.Core.List.{List, []}
+use mathlib.Core.Option.{none, some}
 use Prim.Native.Nat.{ℕ, _≤_, _<_}
-use native.Mathlib.Omega.{arith}
 use lib.Dec.{eqb}
 use lib.ListN.{length, getD}
 use borrow.Author.Tests.{ltb-true, leb-true, eq-eqb}
+use Rattle.lists.specs.Lists.{maybe}
 use Rattle.lists.specs.Keyed.{rising, put, mapValues}
 use Rattle.lists.proofs.Tests.{by-test}
 use Rattle.lists.proofs.Rising.{rising-in, rising-out, rising-keep, rising-put, rising-mapValues}
-use Rattle.window.specs.Window.{numbers, distance, advance, shift, mark}
+use Rattle.window.specs.Window.{numbers, count, distance, advance, shift, mark}
+use Rattle.window.specs.declared.Marks.{Marks}
 use Rattle.rules.specs.declared.Ogm.{Ogm}
 use Rattle.rules.specs.declared.Policy.{Policy}
 use Rattle.rules.specs.Settings.{Config, Follows, linkMost, octets, isAddress}
-use Rattle.rules.specs.Calls.{neighbourOf, pairs}
-use Rattle.rules.specs.Rules.{sequenceOf}
-use Rattle.rules.specs.Table.{TableRecord, marksAt, isHighest, firstRecord, nextRecord}
+use Rattle.rules.specs.Calls.{neighbourOf, pairs, routeBy}
+use Rattle.rules.specs.Rules.{sequenceOf, routeOf}
+use Rattle.rules.specs.Table.{TableRecord, table, marksAt, isHighest, firstRecord, nextRecord}
 use Rattle.rules.proofs.Counting.{sequence-lt, advance-lt}
 use Rattle.table_record.specs.Record.{currentAt, linksOf, encodeRecord, decodeRecord, Held}
 use Rattle.table_record.proofs.Rows.{small-pair, length-record, record-back}
+use Rattle.table_record.proofs.Routes.{route-is}
 use Rattle.count_links.specs.Links.{stays}
-use Rattle.count_in_record.specs.declared.Counting.{Counting}
-use Rattle.count_in_record.specs.Counting.{hasRoom, Counted}
+use Rattle.count_in_record.specs.declared.Counting.the-variants.{Done}
+use Rattle.count_in_record.specs.Counting.{CountedIn}
 use Rattle.count_in_record.proofs.Rows.{first, first-is}
 
 -- settings that a policy follows
@@ -52,15 +55,18 @@ module _ (κ : Config) (m : Ogm) (small : m .sequence < numbers) where
   pub first-best : eqb (firstRecord κ m .best) (m .link) ≡ true
   first-best = ap (λ (x : TableRecord). eqb (x .best) (m .link)) (sym (first-is κ m small)) ∙ eq-eqb (m .link) (m .link) refl
 
-  pub first-back : (a : ℕ) → decodeRecord (encodeRecord (a, firstRecord κ m)) ≡ (a, firstRecord κ m)
-  first-back a = record-back (a, firstRecord κ m) (subst (λ (x : TableRecord). length (x .links) ≤ linkMost) (first-is κ m small) (omega arith))
+  -- and has one mark
+  pub first-route : (marks w : ℕ) → marks ≡ mark 0 0 → w ≡ κ .settings .window → routeBy (m .link) (count marks) w ≡ routeOf table κ (some (firstRecord κ m))
+  first-route marks w em ew =
+      route-is κ (first κ m small) marks w (em ∙ sym (ap (λ (t : Bool). maybe (cond t (some (mark 0 0)) none) 0 (λ v. v)) (eq-eqb (m .link) (m .link) refl))) ew
+      ∙ ap (λ (x : TableRecord). routeOf table κ (some x)) (first-is κ m small)
 
 -- ---- a message of typed fields, by the link of an address
 
-module _ (κ : Config) (m : Ogm) (ttl : m .ttl < octets) (link : isAddress (neighbourOf (m .link)) ≡ true) where
-  link-small : m .link < pairs
-  link-small = ltb-true (m .link) pairs (small-pair (m .link) ∙ link)
+pub link-small : (m : Ogm) → isAddress (neighbourOf (m .link)) ≡ true → m .link < pairs
+link-small m link = ltb-true (m .link) pairs (small-pair (m .link) ∙ link)
 
+module _ (κ : Config) (m : Ogm) (ttl : m .ttl < octets) (link : isAddress (neighbourOf (m .link)) ≡ true) where
   next-held : (row : List ℕ) (a : ℕ) → Held row → length (nextRecord κ m (decodeRecord row .1) .links) ≤ linkMost → Held (encodeRecord (a, nextRecord κ m (decodeRecord row .1)))
   unfolding nextRecord decodeRecord
   next-held row a h few =
@@ -70,17 +76,9 @@ module _ (κ : Config) (m : Ogm) (ttl : m .ttl < octets) (link : isAddress (neig
       let ls = mapValues d (linksOf row) in
       let v = mark (marksAt ls (m .link)) (distance c (sequenceOf m)) in
       held-encoded (a, nextRecord κ m (decodeRecord row .1)) (advance-lt W (getD row currentAt 0) (sequenceOf m) (h .current) (sequence-lt m)) ttl few
-      (by-test (λ x. x < pairs) (isHighest κ (m .link) v (put (m .link) v ls)) (λ _. link-small) (λ _. h .best))
+      (by-test (λ x. x < pairs) (isHighest κ (m .link) v (put (m .link) v ls)) (λ _. link-small m link) (λ _. h .best))
       (rising-out (nextRecord κ m (decodeRecord row .1) .links) (rising-keep (stays (nextRecord κ m (decodeRecord row .1) .best)) (put (m .link) v ls) (rising-put (m .link) v ls (rising-mapValues d (linksOf row) (rising-in (linksOf row) (h .rises))))))
 
-  -- counted or refused
-  pub counted-held : (before after : List ℕ) {r : Counting} → Held before → Counted κ m before after r → Held after
-  counted-held before after h w = subst Held (sym (w .cells)) (go (hasRoom (nextRecord κ m (decodeRecord before .1))) refl)
-    where
-      go : (t : Bool) → hasRoom (nextRecord κ m (decodeRecord before .1)) ≡ t → Held (cond t (encodeRecord (decodeRecord before .0, nextRecord κ m (decodeRecord before .1))) before)
-      go true e = next-held before (decodeRecord before .0) h (leb-true (length (nextRecord κ m (decodeRecord before .1) .links)) linkMost e)
-      go false e = h
-
-  -- the row that the first message makes
-  pub first-held : m .sequence < numbers → (a : ℕ) → Held (encodeRecord (a, firstRecord κ m))
-  first-held small a = subst (λ (x : TableRecord). Held (encodeRecord (a, x))) (first-is κ m small) (held-encoded (a, first κ m small) small ttl (omega arith) link-small refl)
+  -- counted
+  pub counted-held : (v : Marks) (before after : List ℕ) → Held before → CountedIn κ m before after (Done v) → Held after
+  counted-held v before after h w = subst Held (sym (w .1)) (next-held before (decodeRecord before .0) h (leb-true (length (nextRecord κ m (decodeRecord before .1) .links)) linkMost (w .0)))

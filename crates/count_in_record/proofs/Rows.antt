@@ -2,6 +2,7 @@
 use mathlib.Core.Path.{_≡_, refl, sym, ap, _∙_, subst}
 use mathlib.Core.List.{List, [], _∷_, _++_, append-nil}
 use mathlib.Core.Bool.{Bool, true, cond, _&&_, _||_}
+use mathlib.Core.Option.{Option}
 use Prim.Native.Nat.{ℕ, zero, suc, _+_, _*_, _%_, _≤_, _<_}
 use native.Mathlib.Nat.{not-suc-le-zero, le-of-suc-le-suc, mod-eq-of-lt}
 use native.Mathlib.Omega.{arith}
@@ -9,12 +10,14 @@ use lib.Dec.{eqb}
 use borrow.Author.Tests.{ltb-true, le-leb, lt-leb}
 use lib.ListN.{length, take, drop, set, getD}
 use lib.Seq.{drop-drop, drop-length, getD-set-same}
-use Rattle.lists.specs.Lists.{keep}
+use Rattle.lists.specs.Lists.{keep, maybe}
 use Rattle.lists.specs.Keyed.{put, mapValues}
 use Rattle.lists.proofs.Tests.{cond-same}
+use Rattle.lists.proofs.Keyed.{lookup-put, lookup-kept}
 use Rattle.cells.specs.Area.{fit, written}
 use Rattle.cells.proofs.Lent.{cells-from}
 use Rattle.window.specs.Window.{numbers, distance, inside, advance, bit, marked, shift, mark}
+use Rattle.window.specs.Marks.{wordOf}
 use Rattle.window.proofs.Numbers.{distance-self}
 use Rattle.rules.specs.declared.Ogm.{Ogm}
 use Rattle.rules.specs.declared.Policy.{Policy}
@@ -30,9 +33,8 @@ use Rattle.count_links.specs.declared.Left.{Left}
 use Rattle.count_links.specs.Links.{stays, scratchCells, Built, Recounted}
 use Rattle.count_links.proofs.Cells.{cellsOf}
 use Rattle.count_links.proofs.Places.{mark-has}
-use Rattle.count_in_record.specs.declared.Counting.{Counting}
 use Rattle.count_in_record.specs.declared.Counting.the-variants.{Done, LinksFull}
-use Rattle.count_in_record.specs.Counting.{Counted}
+use Rattle.count_in_record.specs.Counting.{CountedIn}
 
 -- five fields and the links written
 pub store-cells : (row links : List ℕ) (a b c d e : ℕ) → length row ≡ recordCells → length links ≡ linkMost * linkCells
@@ -106,26 +108,29 @@ module _ (κ : Config) (row : List ℕ) (m : Ogm) {p : Policy} (f : Follows κ p
     unfolding nextRecord decodeRecord
     links-are = subst (Built out (left .links) []) (λ i. keep (stays (best-is i)) (put (m .link) (mark (marksAt (links-held i) (m .link)) (below-is i)) (links-held i))) (g .links)
 
-    pub counted-not : linkMost < left .links → Counted κ m row row LinksFull
+    -- this link has a mark, and so stays
+    marks-are : wordOf (left .marks) ≡ marksAt (after .links) (m .link)
+    unfolding nextRecord decodeRecord
+    marks-are =
+        let v = mark (marksAt ls (m .link)) below in
+        let stayed = lookup-kept (stays (left .best)) (m .link) v (ap (λ (t : Bool). t || eqb (m .link) (left .best)) (mark-has (marksAt ls (m .link)) below)) (put (m .link) v ls) (lookup-put (m .link) v ls) in
+        g .marks ∙ sym (ap (λ (o : Option ℕ). maybe o 0 (λ x. x)) stayed)
+        ∙ (λ i. marksAt (keep (stays (best-is i)) (put (m .link) (mark (marksAt (links-held i) (m .link)) (below-is i)) (links-held i))) (m .link))
+
+    pub counted-not : linkMost < left .links → CountedIn κ m row row LinksFull
     counted-not h =
         let e = done-size links-are in
-        let full = lt-leb (length (after .links)) linkMost (omega arith) in
-        record {
-          end = sym (ap (λ (t : Bool). cond {A = Counting} t Done LinksFull) full);
-          cells = sym (ap (λ (t : Bool). cond t (encodeRecord (decodeRecord row .0, after)) row) full);
-        }
+        (lt-leb (length (after .links)) linkMost (omega arith), refl)
 
     pub counted-now : (row2 : List ℕ) → length out ≡ scratchCells → left .links ≤ linkMost
-        → row2 ≡ getD row addressAt 0 ∷ next ∷ m .time ∷ m .ttl ∷ left .links ∷ left .best ∷ take (linkMost * linkCells) out → Counted κ m row row2 Done
+        → row2 ≡ getD row addressAt 0 ∷ next ∷ m .time ∷ m .ttl ∷ left .links ∷ left .best ∷ take (linkMost * linkCells) out → CountedIn κ m row row2 (Done (left .marks))
     unfolding encodeRecord nextRecord decodeRecord
     counted-now row2 len h e =
-        let es = done-size links-are in
-        let room = le-leb (length (after .links)) linkMost (omega arith) in
-        let cells : row2 ≡ encodeRecord (decodeRecord row .0, after) = e ∙ (λ i. getD row addressAt 0 ∷ current-is i ∷ m .time ∷ m .ttl ∷ es i ∷ best-is i ∷ done-links links-are (omega arith) i) in
-        record {
-          end = sym (ap (λ (t : Bool). cond {A = Counting} t Done LinksFull) room);
-          cells = cells ∙ sym (ap (λ (t : Bool). cond t (encodeRecord (decodeRecord row .0, after)) row) room);
-        }
+        let es = done-size links-are in (
+          le-leb (length (after .links)) linkMost (omega arith),
+          e ∙ (λ i. getD row addressAt 0 ∷ current-is i ∷ m .time ∷ m .ttl ∷ es i ∷ best-is i ∷ done-links links-are (omega arith) i),
+          marks-are,
+        )
 
 -- the number lies inside the window that it leaves
 pub next-near : (w c n : ℕ) {next k : ℕ} → 1 ≤ w → next ≡ advance w c n → k ≡ distance next n → k < w

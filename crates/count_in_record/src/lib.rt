@@ -20,6 +20,7 @@ use table_record::LINKS_CELLS;
 use table_record::TIME;
 use table_record::links_part;
 use table_record::put_link;
+use table_record::route_by;
 use table_record::route_of;
 use window::Marks;
 use window::advance;
@@ -37,27 +38,32 @@ ghost use Rattle.window.specs.Marks.{wordOf};
 ghost use Rattle.rules.specs.Settings.{Config, Follows, Bounded, isAddress, linkMost, linkCells, recordCells};
 ghost use Rattle.rules.specs.Calls.{neighbourOf};
 ghost use Rattle.rules.specs.Rules.{sequenceOf};
-ghost use Rattle.rules.specs.Table.{marksAt, firstRecord, isMarked};
-ghost use Rattle.table_record.specs.Record.{addressAt, linksOf, encodeRecord, decodeRecord, Held};
+ghost use Rattle.rules.specs.Table.{marksAt, isMarked};
+ghost use Rattle.table_record.specs.Record.{addressAt, linksOf, decodeRecord, Held};
 ghost use Rattle.count_links.specs.Links.{SpotOf};
-ghost use Rattle.count_in_record.specs.Counting.{Counted, Answered, HeardIn};
+ghost use Rattle.count_in_record.specs.Counting.{CountedIn, FirstIn, Answered, HeardIn};
 
 // Room for one link more: the ninth is there only until it is known whether another gives up its place.
 const SCRATCH: usize = LINKS_CELLS + LINK;
 
-// How counting ends: done, or refused since more links than there is room for would have marks or be best.
+// How counting ends: done, the message's link having these marks, or refused since more links than there is room for would have marks or be best.
 pub enum Counting {
-    Done,
+    Done(Marks),
     LinksFull,
 }
 
-// What is answered of a message: how counting it ended, whether it was no duplicate or had the last TTL, whether its link is best, and the route
-// of its originator.
-pub struct Heard {
-    pub counting: Counting,
+// What is answered of a message: whether it was no duplicate or had the last TTL, whether its link is best, and the route of its originator.
+pub struct Answer {
     pub fresh: bool,
     pub best: bool,
     pub route: Route,
+}
+
+// What becomes of a message to a record: counted, not counted, or refused as counting is.
+pub enum Heard {
+    Counted(Answer),
+    Uncounted(Answer),
+    LinksFull,
 }
 
 // Writes a record's cells after its address: the window's current number, the message that was counted, and the links.
@@ -77,7 +83,7 @@ fn store(row: &mut [u64], current: u16, m: Ogm, left: Left, links: &[u64])
 // once it is known that they fit.
 fn count_message(row: &mut [u64], p: Policy, m: Ogm, spot: Spot) -> Counting
     requires { ⌜ Held (now row) × Bounded p × SpotOf (linksOf (now row)) (m .link) spot ⌝ }
-    ensures { λ r. ⌜ ((κ : Config) → Follows κ p → Counted κ m (now (row .entry)) (now (row .exit)) r) ⌝ }
+    ensures { λ r. ⌜ ((κ : Config) → Follows κ p → CountedIn κ m (now (row .entry)) (now (row .exit)) r) ⌝ }
 {
     let current = row[CURRENT] as u16;
     let n = row[LINKS] as usize;
@@ -95,22 +101,26 @@ fn count_message(row: &mut [u64], p: Policy, m: Ogm, spot: Spot) -> Counting
         return Counting::LinksFull;
     }
     store(row, next, m, left, &out[..LINKS_CELLS]);
-    Counting::Done
+    let marks = left.marks;
+    Counting::Done(marks)
 }
 
-// Writes the record that the first counted message makes, whatever the row held.
-pub fn first_record(row: &mut [u64], address: u64, m: Ogm)
-    requires { ⌜ length (now row) ≡ recordCells ⌝ }
-    ensures { λ _. ⌜ ((κ : Config) → now (row .exit) ≡ encodeRecord (address, firstRecord κ m)) ⌝ }
+// Writes the record that the first counted message makes, whatever the row held, and answers its route: its only link is best.
+pub fn first_record(row: &mut [u64], address: u64, p: Policy, m: Ogm) -> Route
+    requires { ⌜ (length (now row) ≡ recordCells) × Bounded p × (isAddress (neighbourOf (m .link)) ≡ true) ⌝ }
+    ensures { λ r. ⌜ ((κ : Config) → Follows κ p → FirstIn κ m address (now (row .exit)) r) ⌝ }
 {
+    let marks = mark(no_marks(), 0);
     let mut links = [0u64; LINKS_CELLS];
-    put_link(&mut links, 0, m.link, mark(no_marks(), 0));
+    put_link(&mut links, 0, m.link, marks);
     row[ADDRESS] = address;
     let left = Left {
         links: 1,
         best: m.link,
+        marks,
     };
     store(row, m.sequence, m, left, &links);
+    route_by(m.link, marks, p.window as u32)
 }
 
 // Whether the message's number is inside the window and already marked on its link, which has these marks.
@@ -126,22 +136,34 @@ fn is_duplicate(row: &[u64], p: Policy, m: Ogm, marks: Marks) -> bool
 }
 
 // The answer to a message, by the row as it is left.
-fn answer(row: &[u64], p: Policy, m: Ogm, counting: Counting, fresh: bool) -> Heard
+fn answer_of(row: &[u64], p: Policy, m: Ogm, fresh: bool) -> Answer
     requires { ⌜ Held (now row) × Bounded p ⌝ }
-    ensures { λ r. ⌜ ((κ : Config) → Follows κ p → Answered κ m (decodeRecord (now (row .entry)) .1) counting fresh r) ⌝ }
+    ensures { λ r. ⌜ ((κ : Config) → Follows κ p → Answered κ m (decodeRecord (now (row .entry)) .1) fresh r) ⌝ }
 {
     let best = row[BEST] == m.link;
     let route = route_of(row, p.window as u32);
-    Heard {
-        counting,
-        fresh,
-        best,
+    Answer { fresh, best, route }
+}
+
+// The answer to a message that was counted, by the row as it is left, where its link has these marks: they give the route where that link is best.
+fn answer_counted(row: &[u64], p: Policy, m: Ogm, marks: Marks) -> Answer
+    requires { ⌜ Held (now row) × Bounded p × (wordOf marks ≡ marksAt (linksOf (now row)) (m .link)) ⌝ }
+    ensures { λ r. ⌜ ((κ : Config) → Follows κ p → Answered κ m (decodeRecord (now (row .entry)) .1) true r) ⌝ }
+{
+    let best = row[BEST];
+    if best != m.link {
+        return answer_of(row, p, m, true);
+    }
+    let route = route_by(best, marks, p.window as u32);
+    Answer {
+        fresh: true,
+        best: true,
         route,
     }
 }
 
 // What a message does to its originator's record: a message that comes by a bidirectional link and is no duplicate is counted. Duplicate and last TTL
-// are judged before counting, best and route after it.
+// are judged before counting, best and route after it. What is counted is no duplicate, so its TTL is not asked for.
 pub fn hear(row: &mut [u64], p: Policy, m: Ogm, bidirectional: bool) -> Heard
     requires { ⌜ Held (now row) × Bounded p × (isAddress (neighbourOf (m .link)) ≡ true) ⌝ }
     ensures { λ r. ⌜ ((κ : Config) → Follows κ p → HeardIn κ m bidirectional (now (row .entry)) (now (row .exit)) r) ⌝ }
@@ -149,10 +171,13 @@ pub fn hear(row: &mut [u64], p: Policy, m: Ogm, bidirectional: bool) -> Heard
     let spot = locate(links_part(row), row[LINKS] as usize, m.link);
     let marks = spot.marks;
     let duplicate = is_duplicate(row, p, m, marks);
-    let fresh = !duplicate | (m.ttl as u64 == row[LAST_TTL]);
     if !(bidirectional & !duplicate) {
-        return answer(row, p, m, Counting::Done, fresh);
+        let fresh = !duplicate | (m.ttl as u64 == row[LAST_TTL]);
+        return Heard::Uncounted(answer_of(row, p, m, fresh));
     }
     let counting = count_message(row, p, m, spot);
-    answer(row, p, m, counting, fresh)
+    match counting {
+        Counting::LinksFull => Heard::LinksFull,
+        Counting::Done(marks) => Heard::Counted(answer_counted(row, p, m, marks)),
+    }
 }

@@ -160,5 +160,6 @@ recount-done part step n held marks {out} {key} {best} {s} {r} l es ev a =
     let e : v ≡ mark (marksAt ls key) k = ev ∙ ap (λ (x : ℕ). mark x k) (es ∙ at .marks) in
     record {
       chose = λ κ f. a .chose κ f ∙ chosen-put κ key v best ls ∙ ap (λ (x : ℕ). chosen κ key x best (put key x ls)) e;
+      marks = a .marks ∙ e;
       links = subst (Built out (r .links) []) (kept-put at v (r .best) (ap hasMark ev ∙ mark-has s k) ∙ ap (λ (x : ℕ). keep (stays (r .best)) (put key x ls)) e) (a .links);
     }

@@ -59,9 +59,12 @@ pub record Built (out : List ℕ) (m : ℕ) (rest goal : Links) : Type 0 where
 -- place; r says which is best
 pub record Arranged (out : List ℕ) (r : Left) (s : Spot) (p : Policy) (key best : ℕ) (ls : Links) : Type 0 where
   pub chose : (κ : Config) → Follows κ p → r .best ≡ chosen κ key (wordOf (s .marks)) best ls
+  pub marks : wordOf (r .marks) ≡ wordOf (s .marks)
   pub links : Built out (r .links) [] (keep (stays (r .best)) (take (s .low) ls) ++ ((key, wordOf (s .marks)) ∷ keep (stays (r .best)) (drop (s .high) ls)))
 
--- `out` holds as many links as r says: those of ls with the message's number marked on this one, without those that give up their place; r says which is best
+-- `out` holds as many links as r says: those of ls with the message's number marked on this one, without those that give up their place; r says which is
+-- best, and has this one's marks
 pub record Recounted (out : List ℕ) (r : Left) (step : Step) (key best : ℕ) (ls : Links) : Type 0 where
   pub chose : (κ : Config) → Follows κ (step .policy) → r .best ≡ chosen κ key (mark (marksAt ls key) (step .below)) best (put key (mark (marksAt ls key) (step .below)) ls)
+  pub marks : wordOf (r .marks) ≡ mark (marksAt ls key) (step .below)
   pub links : Built out (r .links) [] (keep (stays (r .best)) (put key (mark (marksAt ls key) (step .below)) ls))

@@ -80,10 +80,11 @@ pub fn locate(part: &[u64], n: usize, key: u64) -> Spot
     }
 }
 
-// How many links counting leaves, and the best one's key.
+// How many links counting leaves, the best one's key, and this link's marks.
 pub struct Left {
     pub links: usize,
     pub best: u64,
+    pub marks: Marks,
 }
 
 // Writes the links in their order, this one with these marks between the first `low` and those from `high` on, without those that give up
@@ -108,7 +109,11 @@ fn arrange(
     put_link(out, m, key, marks);
     let from = high * LINK;
     let links = keep_links(out, m + 1, &part[from..], n - high, step, b);
-    Left { links, best: b }
+    Left {
+        links,
+        best: b,
+        marks,
+    }
 }
 
 // Writes the links after counting: current moves up, and the message's number is marked on this link, which stands at this spot.

@@ -169,6 +169,18 @@ module _ {A : Type 0} where
       go false d true b g r = ap (λ (t : Bool). maybe (cond t (some (e .1)) (lookup k (keep p es))) false (λ v. true)) d ∙ r g
       go false d false b g r = r g
 
+  -- what is found and passes is found among those that pass
+  pub lookup-kept : (p : ℕ × A → Bool) (k : ℕ) (v : A) → p (k, v) ≡ true → (es : List (ℕ × A)) → lookup k es ≡ some v → lookup k (keep p es) ≡ some v
+  lookup-kept p k v f [] h = h
+  lookup-kept p k v f (e ∷ es) h = go (eqb k (e .0)) refl (p e) refl h (lookup-kept p k v f es)
+    where
+      go : (t : Bool) → eqb k (e .0) ≡ t → (u : Bool) → p e ≡ u → cond t (some (e .1)) (lookup k es) ≡ some v → (lookup k es ≡ some v → lookup k (keep p es) ≡ some v)
+          → lookup k (cond u (e ∷ keep p es) (keep p es)) ≡ some v
+      go true d true b g r = ap (λ (t : Bool). cond t (some (e .1)) (lookup k (keep p es))) d ∙ g
+      go true d false b g r = absurd (false≢true (sym b ∙ ap₂ (λ (n : ℕ) (x : A). p (n, x)) (sym (eqb-true k (e .0) d)) (ap (λ (o : Option A). maybe o (e .1) (λ x. x)) g) ∙ f))
+      go false d true b g r = ap (λ (t : Bool). cond t (some (e .1)) (lookup k (keep p es))) d ∙ r g
+      go false d false b g r = r g
+
   pub lookup-all : (p : ℕ × A → Bool) (k : ℕ) (v : A) (es : List (ℕ × A)) → all p es ≡ true → lookup k es ≡ some v → p (k, v) ≡ true
   lookup-all p k v [] h e = absurd (let z : _≡_ {A = ℕ} 0 1 = cc in omega arith)
   lookup-all p k v (x ∷ xs) h e = go (eqb k (x .0)) refl e (lookup-all p k v xs (and-right (p x) (all p xs) h))

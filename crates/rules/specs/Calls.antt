@@ -93,6 +93,10 @@ noRoute = record { neighbour = 0; interface = 0; count = 0; window = 0 }
 
 -- ---- an answer with several fields is put together here alone, so that one field more is one line
 
+-- the route by a link, with its count and the window size W (RULES 7.4)
+abbrev pub routeBy : (link count W : ℕ) → Route
+routeBy l n w = record { neighbour = neighbourOf l; interface = interfaceOf l; count = n; window = w }
+
 -- a received packet's: a refusal or verdict, the place that 8 carries, the flags octet for the other interfaces, the route
 abbrev pub receivedAs : (number place flags : ℕ) → Route → Received
 receivedAs n p f x = record { number = n; place = p; flags = f; route = x }

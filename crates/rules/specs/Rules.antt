@@ -18,7 +18,7 @@ use Rattle.rules.specs.declared.Route.{Route}
 use Rattle.rules.specs.declared.LinkRow.{LinkRow}
 use Rattle.rules.specs.declared.Ogm.{Ogm}
 use Rattle.rules.specs.Settings.{neighbourMost, linkMost, ttlLeast, MakeArgs, Config, configOf, makeAllowed, interfaceAt, isInUse, isOwn, isBroadcast}
-use Rattle.rules.specs.Calls.{linkOf, neighbourOf, interfaceOf, noRoute, made, received, written, swept, asked, listed, receivedAs, writtenAs, ReceiveArgs, OwnArgs, Call, make, receive, own, sweep, question, list, Reply, answered, answeredWriting, answeredFilling, refusal}
+use Rattle.rules.specs.Calls.{linkOf, neighbourOf, interfaceOf, noRoute, routeBy, made, received, written, swept, asked, listed, receivedAs, writtenAs, ReceiveArgs, OwnArgs, Call, make, receive, own, sweep, question, list, Reply, answered, answeredWriting, answeredFilling, refusal}
 
 -- ---- readings
 
@@ -212,15 +212,9 @@ module _ (W : Reading) where
   abbrev pub countOf : Config → W .Record → (link : ℕ) → ℕ
   countOf κ a l = maybe (lookup l (W .links κ a)) 0 (λ n. n)
 
-  -- neighbour, interface, count and W
+  -- the route by the best link, or "no route"
   abbrev pub routeOf : Config → Option (W .Record) → Route
-  routeOf κ x =
-      maybe x noRoute (λ a. record {
-        neighbour = neighbourOf (W .best κ a);
-        interface = interfaceOf (W .best κ a);
-        count = countOf κ a (W .best κ a);
-        window = κ .settings .window;
-      })
+  routeOf κ x = maybe x noRoute (λ a. routeBy (W .best κ a) (countOf κ a (W .best κ a)) (κ .settings .window))
 
   -- one row per held link, in table order; an unknown originator has zero links
   abbrev pub linkRows : Config → Option (W .Record) → List LinkRow

@@ -1,4 +1,3 @@
--- What the records in their cells say, what the table is once one is changed, and the ways that a message goes.
+-- What the records in their cells say, and what the table is once one is changed.
 pub mod Records
 pub mod Changed
-pub mod Heard

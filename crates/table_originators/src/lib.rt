@@ -12,7 +12,6 @@ use table_layout::RECORDS;
 use table_layout::RECORDS_FROM;
 use table_layout::WINDOW;
 use table_record::WIDTH;
-use table_record::route_of;
 ghost use mathlib.Core.Path.{_≡_};
 ghost use mathlib.Core.Bool.{true};
 ghost use Prim.Native.Nat.{ℕ, _<_};
@@ -77,8 +76,8 @@ pub fn make_record(cells: &mut [u64], i: usize, originator: u32, m: Ogm) -> Rout
     let n = cells[RECORDS];
     let end = RECORDS_FROM + (n as usize + 1) * WIDTH;
     let mut row = [0u64; WIDTH];
-    first_record(&mut row, originator as u64, m);
+    let route = first_record(&mut row, originator as u64, p, m);
     put_in(&mut cells[RECORDS_FROM..end], i * WIDTH, &row);
     cells[RECORDS] = n + 1;
-    route_of(&row, p.window as u32)
+    route
 }

@@ -1,8 +1,8 @@
 -- The links of a record that is held, and its route. Assumes nothing.
-use mathlib.Core.Path.{_≡_, refl, sym, ap, _∙_}
+use mathlib.Core.Path.{_≡_, refl, sym, ap, ap₂, _∙_}
 use mathlib.Core.List.{List}
 use mathlib.Core.Option.{Option, none, some}
-use Prim.Native.Nat.{ℕ, _/_, _%_}
+use Prim.Native.Nat.{ℕ}
 use native.Mathlib.Omega.{arith}
 use lib.Count.{ones}
 use lib.ListN.{getD}
@@ -12,12 +12,11 @@ use Rattle.lists.proofs.Tests.{maybe-map}
 use Rattle.lists.proofs.Keyed.{lookup-mapValues}
 use Rattle.cells.specs.Find.{Sorted}
 use Rattle.window.specs.Window.{count}
-use Rattle.rules.specs.declared.Route.{Route}
-use Rattle.rules.specs.Settings.{Config, interfaceMost, linkCells}
-use Rattle.rules.specs.Calls.{neighbourOf, interfaceOf}
+use Rattle.rules.specs.Settings.{Config, linkCells}
+use Rattle.rules.specs.Calls.{routeBy}
 use Rattle.rules.specs.Rules.{routeOf}
-use Rattle.rules.specs.Table.{table, marksAt}
-use Rattle.table_record.specs.Record.{linksAt, bestAt, linksPart, linksOf, decodeRecord, Held}
+use Rattle.rules.specs.Table.{TableRecord, table, marksAt}
+use Rattle.table_record.specs.Record.{linksAt, linksPart, Held}
 use Rattle.table_record.proofs.Links.{links-sorted}
 use Rattle.table_record.proofs.Rows.{part-size}
 
@@ -38,9 +37,6 @@ count-marks ls k =
     go none = refl
     go (some v) = refl
 
-pub route-is : (κ : Config) (row : List ℕ) (n w : ℕ) → n ≡ count (marksAt (linksOf row) (getD row bestAt 0)) → w ≡ κ .settings .window
-    → _≡_ {A = Route} (record { neighbour = getD row bestAt 0 / interfaceMost; interface = getD row bestAt 0 % interfaceMost; count = n; window = w }) (routeOf table κ (some (decodeRecord row .1)))
-unfolding neighbourOf interfaceOf decodeRecord
-route-is κ row n w en ew =
-    let b = getD row bestAt 0 in
-    λ i. record { neighbour = b / interfaceMost; interface = b % interfaceMost; count = (en ∙ sym (count-marks (linksOf row) b)) i; window = ew i }
+-- a record's route is that by its best link
+pub route-is : (κ : Config) (x : TableRecord) (marks w : ℕ) → marks ≡ marksAt (x .links) (x .best) → w ≡ κ .settings .window → routeBy (x .best) (count marks) w ≡ routeOf table κ (some x)
+route-is κ x marks w em ew = ap₂ (routeBy (x .best)) (ap count em ∙ sym (count-marks (x .links) (x .best))) ew

@@ -9,12 +9,14 @@ use window::count;
 use window::no_marks;
 ghost use mathlib.Core.Path.{_≡_};
 ghost use mathlib.Core.Option.{some};
-ghost use Prim.Native.Nat.{_+_, _*_, _≤_};
+ghost use Prim.Native.Nat.{_+_, _*_, _≤_, _<_};
 ghost use lib.ListN.{length};
 ghost use Rattle.cells.specs.Area.{written};
 ghost use Rattle.cells.specs.Find.{Sorted};
 ghost use Rattle.window.specs.Marks.{wordOf};
+ghost use Rattle.window.specs.Window as W;
 ghost use Rattle.rules.specs.Settings.{Config, linkCells, recordCells};
+ghost use Rattle.rules.specs.Calls.{pairs, routeBy};
 ghost use Rattle.rules.specs.Rules.{routeOf};
 ghost use Rattle.rules.specs.Table.{table, marksAt};
 ghost use Rattle.table_record.specs.Links.{linkRow, linksFrom, linkAt};
@@ -99,17 +101,25 @@ pub fn marks_of(part: &[u64], n: usize, key: u64) -> Marks
     }
 }
 
-// The route by the best link: neighbour, interface, count and window together.
+// The route by a link with these marks: neighbour, interface, count and window together.
+pub fn route_by(link: u64, marks: Marks, window: u32) -> Route
+    requires { ⌜ link < pairs ⌝ }
+    ensures { λ r. ⌜ r ≡ routeBy link (W.count (wordOf marks)) window ⌝ }
+{
+    Route {
+        neighbour: (link / INTERFACES_MOST) as u32,
+        interface: (link % INTERFACES_MOST) as u32,
+        count: count(marks),
+        window,
+    }
+}
+
+// The route by the best link.
 pub fn route_of(row: &[u64], window: u32) -> Route
     requires { ⌜ Held (now row) ⌝ }
     ensures { λ r. ⌜ ((κ : Config) → window ≡ κ .settings .window → r ≡ routeOf table κ (some (decodeRecord (now (row .entry)) .1))) ⌝ }
 {
     let best = row[BEST];
     let marks = marks_of(links_part(row), row[LINKS] as usize, best);
-    Route {
-        neighbour: (best / INTERFACES_MOST) as u32,
-        interface: (best % INTERFACES_MOST) as u32,
-        count: count(marks),
-        window,
-    }
+    route_by(best, marks, window)
 }

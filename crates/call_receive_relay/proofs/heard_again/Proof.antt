@@ -1,11 +1,14 @@
 -- `call_receive_relay::heard_again` meets its contract: 11, or concluded by what the record answers. Assumes nothing.
-use native.Mathlib.Omega.{arith}
 use borrow.Author.Needs.{needs}
+use Prim.Native.Nat.{_<_}
+use native.Mathlib.Omega.{arith}
 use denote.Ref.{now}
+use lib.ListN.{length}
+use Rattle.table_layout.specs.Layout.{timeAt}
 use Rattle.table_originators.specs.Originators.{HeardAt}
-use Rattle.call_receive_arrival.specs.Receiving.{callOf}
+use Rattle.call_receive_arrival.specs.Receiving.{callOf, Fits}
 use Rattle.call_receive_arrival.proofs.Endings.{refused-left}
-use Rattle.call_receive_relay.proofs.Messages.{again-full, again-same, again-done}
+use Rattle.call_receive_relay.proofs.Messages.{again-full, again-same, again-counted, again-kept}
 use Rattle.call_receive_relay.proofs.heard_again.Statement.{statement}
 use Rattle.call_receive_relay.proofs.heard_again.Tie as tie
 
@@ -14,8 +17,17 @@ use Rattle.call_receive_relay.proofs.heard_again.Tie as tie
 abbrev full : tie.After-enum-told → tie.After-hear-at
 full c = c .before .before .before .before
 
-abbrev done : tie.After-enum-told2 → tie.After-hear-at
-done c = c .before .before .before .before
+abbrev counted : tie.After-heard → tie.After-hear-at
+counted c = c .before .before .before .before
+
+abbrev kept : tie.After-heard2 → tie.After-hear-at
+kept c = c .before .before .before .before
+
+abbrev by-counted : tie.After-conclude-arg2 → tie.After-heard
+by-counted c = c .before .before .before .before .before
+
+abbrev by-kept : tie.After-conclude-arg4 → tie.After-heard2
+by-kept c = c .before .before .before .before .before
 
 abbrev entry : tie.After-hear-at → tie.Start
 entry c = c .before .before .before .before .before .before
@@ -23,6 +35,10 @@ entry c = c .before .before .before .before .before .before
 -- what the record answers
 heard : (c : tie.After-hear-at) → let a = entry c .args in HeardAt (now (a .cells)) (c .hear-at .last .0) (a .m .originator) (a .i) (a .m .ogm) (a .bidirectional) (c .hear-at .result)
 heard c = c .hear-at .ensures _ (entry c .pre .1)
+
+-- what an end asks: the packet fits, and the cells have a time
+ending : (c : tie.After-hear-at) → let a = entry c .args in Fits (now (a .packet)) (now (a .out)) (a .m) × (timeAt < length (c .hear-at .last .0))
+ending c = let t = entry c .pre .0 .taken in (t .fits, omega (arith, t .knows .sized .size, c .hear-at .kept .0))
 
 -- ---- the ends
 
@@ -35,18 +51,21 @@ returns c =
     refused-left (s .pre .0 .taken .knows) (callOf (now (s .args .packet)) (now (s .args .out)) (s .args .m)) (again-full (s .pre .0) (s .pre .1) (heard h) e) (again-same (s .pre .0) (s .pre .1) (heard h) e)
     (c .before .refusal .ensures) (c .refused .ensures)
 
-conclude-requires : tie.Need-conclude-requires
-conclude-requires c κs =
-    let h = done (c .before .before .before .before) in
-    let t = entry h .pre .0 .taken in (t .fits, omega (arith, t .knows .sized .size, h .hear-at .kept .0))
-
 returns-2 : tie.Need-returns-2
 returns-2 c =
     let k = c .before .before .before .before in
-    let t = k .before .before .before .before .before in
-    let h = done t in
+    let t = by-counted (k .before) in
+    let h = counted t in
     let s = entry h in
-    again-done (s .pre .0) (s .pre .1) (heard h) (t .enum-told2 .given .1) (k .conclude .ensures)
+    again-counted (s .pre .0) (s .pre .1) (heard h) (t .heard .given .1) (k .conclude .ensures)
+
+returns-3 : tie.Need-returns-3
+returns-3 c =
+    let k = c .before .before .before .before in
+    let t = by-kept (k .before) in
+    let h = kept t in
+    let s = entry h in
+    again-kept (s .pre .0) (s .pre .1) (heard h) (t .heard2 .given .1) (k .conclude2 .ensures)
 
 pub heard-again-spec : {M : Type 1} → statement M
 heard-again-spec =
@@ -57,9 +76,14 @@ heard-again-spec =
     (λ c κs. search needs)
     (λ c κs. search needs)
     (λ c. search needs)
-    conclude-requires
+    (λ c κs. ending (counted (by-counted c)))
+    (λ c. search needs)
+    (λ c κs. ending (kept (by-kept c)))
     (λ c. search needs)
     returns
     (λ c. search needs)
     (λ c. search needs)
-    returns-2)
+    returns-2
+    (λ c. search needs)
+    (λ c. search needs)
+    returns-3)

@@ -67,7 +67,7 @@ store-requires c κs = let out = from-store c in (from-advance (from-links (from
 
 returns-2 : tie.Need-returns-2
 returns-2 c κ f =
-    let stored = c .before .before in
+    let stored = c .before .before .before in
     let out = from-store (stored .before) in
     let links = from-out out in
     let next = from-links links in

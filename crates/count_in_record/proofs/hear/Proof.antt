@@ -1,19 +1,22 @@
 -- The link is located once: its marks tell a duplicate, and its spot is where the message is counted. What is answered is by the row that is left.
 use borrow.Author.Needs.{needs}
-use mathlib.Core.Path.{refl, sym, subst}
+use mathlib.Core.Path.{_≡_, sym, subst}
 use mathlib.Core.List.{List}
 use Prim.Native.Nat.{ℕ, _<_}
 use native.Mathlib.Omega.{arith}
 use lib.ListN.{getD}
 use borrow.Author.Tests.{not-true, not-false}
 use Rattle.cells.specs.Find.{Sorted}
-use Rattle.rules.specs.Settings.{linkCells, octets}
+use Rattle.rules.specs.Settings.{Config, Follows, linkCells, octets}
 use Rattle.table_record.specs.Links.{linksFrom}
 use Rattle.table_record.specs.Record.{linksAt, linksOf}
 use Rattle.table_record.proofs.Routes.{held-sorted}
 use Rattle.count_links.specs.Links.{SpotOf}
+use Rattle.count_in_record.specs.declared.Counting.{Counting}
+use Rattle.count_in_record.specs.declared.Counting.the-variants.{Done}
+use Rattle.count_in_record.specs.Counting.{CountedIn}
 use Rattle.count_in_record.proofs.Left.{some-config, some-follows, counted-held}
-use Rattle.count_in_record.proofs.Hearing.{heard-kept, heard-counted}
+use Rattle.count_in_record.proofs.Hearing.{heard-kept, counted-marks, heard-counted, heard-full}
 use Rattle.count_in_record.proofs.hear.Statement.{statement}
 use Rattle.count_in_record.proofs.hear.Tie as tie
 
@@ -26,16 +29,19 @@ abbrev from-duplicate : tie.After-is-duplicate → tie.After-locate
 from-duplicate c = c .before .before .before
 
 abbrev from-then : tie.Then1 → tie.After-is-duplicate
-from-then c = c .before .before .before
+from-then c = c .before
 
 abbrev from-else : tie.Else1 → tie.After-is-duplicate
-from-else c = c .before .before .before
+from-else c = c .before
 
 abbrev entry : tie.After-is-duplicate → tie.Start
 entry c = from-links (from-duplicate c .before)
 
-abbrev from-answer : tie.After-answer-arg2 → tie.After-count-message
-from-answer c = c .before .before .before
+abbrev from-full : tie.After-enum-told → tie.After-count-message
+from-full c = c .before .before .before .before
+
+abbrev from-done : tie.After-counting → tie.After-count-message
+from-done c = c .before .before .before .before
 
 -- the TTL is an octet
 small : (s : tie.Start) → s .args .m .ttl < octets
@@ -57,32 +63,52 @@ is-duplicate-requires c κs =
     let located = c .before .before in
     let s = from-links (located .before) in (s .pre .0, s .pre .1, spot-is located .marks)
 
+-- counted or refused, as the enum says
+ended : (c : tie.After-count-message) {r : Counting} → c .count-message .result ≡ r → (κ : Config) → let a = entry (from-else (c .before .before)) .args in Follows κ (a .p) → CountedIn κ (a .m) (a .row .now) (c .count-message .last .0) r
+ended c e κ f = let a = entry (from-else (c .before .before)) .args in subst (CountedIn κ (a .m) (a .row .now) _) e (c .count-message .ensures κ f)
+
 returns : tie.Need-returns
 returns c κ f =
-    let told = c .before .before in
+    let told = c .before .before .before .before in
     let d = from-then told in
     let a = entry d .args in
-    heard-kept κ (a .m) (a .bidirectional) (a .row .now) (d .is-duplicate .ensures κ f) refl (not-true _ (told .if1 .taken)) (c .answer .ensures κ f)
+    heard-kept κ (a .m) (a .bidirectional) (a .row .now) (d .is-duplicate .ensures κ f) (not-true _ (told .if1 .taken)) (c .answer-of .ensures κ f)
 
 count-message-requires : tie.Need-count-message-requires
 count-message-requires c κs =
     let d = from-else (c .before) in
     let s = entry d in (s .pre .0, s .pre .1, spot-is (from-duplicate d))
 
-answer-requires-2 : tie.Need-answer-requires-2
-answer-requires-2 c κs =
-    let counted = from-answer c in
-    let s = entry (from-else (counted .before .before)) in
-    let p = s .args .p in
-    (counted-held (some-config p) (s .args .m) (small s) (s .pre .2) (s .args .row .now) _ (s .pre .0) (counted .count-message .ensures (some-config p) (some-follows p)), s .pre .1)
-
 returns-2 : tie.Need-returns-2
 returns-2 c κ f =
-    let counted = from-answer (c .before) in
+    let counted = from-full c in
     let told = counted .before .before in
     let d = from-else told in
     let a = entry d .args in
-    heard-counted κ (a .m) (a .bidirectional) (a .row .now) (d .is-duplicate .ensures κ f) refl (counted .count-message .ensures κ f) (not-false _ (told .if1 .left)) (c .answer2 .ensures κ f)
+    heard-full κ (a .m) (a .bidirectional) (a .row .now) (d .is-duplicate .ensures κ f) (not-false _ (told .if1 .left)) (ended counted (c .enum-told .given .1) κ f)
+
+-- counted, with these marks
+done : (c : tie.After-counting) (κ : Config) → let a = entry (from-else (from-done c .before .before)) .args in Follows κ (a .p) → CountedIn κ (a .m) (a .row .now) (from-done c .count-message .last .0) (Done (c .counting .given .0 .0))
+done c = ended (from-done c) (c .counting .given .1)
+
+answer-counted-requires : tie.Need-answer-counted-requires
+answer-counted-requires c κs =
+    let t = c .before .before in
+    let d = from-else (from-done t .before .before) in
+    let s = entry d in
+    let p = s .args .p in
+    let m = s .args .m in
+    let row = s .args .row .now in
+    let w = done t (some-config p) (some-follows p) in
+    (counted-held (some-config p) m (small s) (s .pre .2) _ row _ (s .pre .0) w, s .pre .1, counted-marks (some-config p) m (s .args .bidirectional) row (d .is-duplicate .ensures (some-config p) (some-follows p)) _ w)
+
+returns-3 : tie.Need-returns-3
+returns-3 c κ f =
+    let t = c .before .before .before in
+    let told = from-done t .before .before in
+    let d = from-else told in
+    let a = entry d .args in
+    heard-counted κ (a .m) (a .bidirectional) (a .row .now) (d .is-duplicate .ensures κ f) _ (done t κ f) (not-false _ (told .if1 .left)) (c .answer-counted .ensures κ f)
 
 pub hear-spec : {M : Type 1} → statement M
 hear-spec =
@@ -98,6 +124,10 @@ hear-spec =
     (λ c. search needs)
     returns
     count-message-requires
-    answer-requires-2
     (λ c. search needs)
-    returns-2)
+    (λ c. search needs)
+    answer-counted-requires
+    (λ c. search needs)
+    returns-2
+    (λ c. search needs)
+    returns-3)

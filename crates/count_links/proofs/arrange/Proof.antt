@@ -1,5 +1,6 @@
 -- Three steps build the goal: the links below this one, this one, and those above, each by what it leaves to come.
 use borrow.Author.Needs.{needs}
+use mathlib.Core.Path.{refl}
 use mathlib.Core.List.{[], _∷_, _++_}
 use Prim.Native.Nat.{ℕ, _+_, _*_, _-_, _≤_}
 use native.Mathlib.Omega.{arith}
@@ -51,6 +52,7 @@ returns c =
     let start = arrange-start (a .out .now) (a .part .now) (a .step) (a .n) (a .spot .low) (a .spot .high) (b .result) (a .key) (wordOf (a .spot .marks)) (s .pre .1) (omega arith) (omega arith) in
     record {
       chose = b .ensures;
+      marks = refl;
       links =
           second .keep-links2 .ensures .1 [] _
           (built-put (kept .keep-links .result) this rest _ (put-fits (put .before)) (put .put-link .ensures) (put .put-link .kept .0) (kept .keep-links .ensures .1 (this ∷ rest) _ start));

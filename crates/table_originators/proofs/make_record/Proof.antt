@@ -1,17 +1,14 @@
--- The row that the first message makes is put in at its place, and asked for its route.
+-- The row that the first message makes is put in at its place, and its route answered.
 use borrow.Author.Needs.{needs}
-use mathlib.Core.Path.{_≡_, sym, ap, _∙_, subst}
-use mathlib.Core.Option.{some}
-use Prim.Native.Nat.{ℕ, _<_}
+use Prim.Native.Nat.{_<_}
 use native.Mathlib.Omega.{arith}
 use denote.Ref.{now}
 use Rattle.window.specs.Window.{numbers}
-use Rattle.rules.specs.Settings.{Config, octets}
-use Rattle.rules.specs.Rules.{routeOf}
-use Rattle.rules.specs.Table.{TableRecord, table, firstRecord}
-use Rattle.table_record.specs.Record.{encodeRecord, decodeRecord, Held}
+use Rattle.rules.specs.Settings.{Config}
+use Rattle.rules.specs.Table.{firstRecord}
 use Rattle.table_layout.specs.Cells.{decode}
-use Rattle.count_in_record.proofs.Left.{first-best, first-back, first-held}
+use Rattle.count_in_record.specs.Counting.{FirstIn}
+use Rattle.count_in_record.proofs.Left.{first-best}
 use Rattle.table_originators.proofs.Changed.{place-fits, record-in}
 use Rattle.table_originators.proofs.make_record.Statement.{statement}
 use Rattle.table_originators.proofs.make_record.Tie as tie
@@ -27,8 +24,8 @@ from-first c = c .before .before .before
 abbrev from-put : tie.After-put-in → tie.After-first-record
 from-put c = c .before .before .before .before
 
-abbrev from-route : tie.After-struct-known → tie.After-put-in
-from-route c = c .before .before .before .before
+abbrev from-count : tie.After-slice-known3 → tie.After-put-in
+from-count c = c .before .before
 
 abbrev entry : tie.After-first-record → tie.Start
 entry c = from-policy (from-first c)
@@ -37,15 +34,12 @@ entry c = from-policy (from-first c)
 small : (s : tie.Start) → s .args .m .sequence < numbers
 small s = omega arith
 
-octet : (s : tie.Start) → s .args .m .ttl < octets
-octet s = omega arith
-
 abbrev config : tie.Start → Config
 config s = decode (now (s .args .cells)) .config
 
--- the row that is made
-row-is : (c : tie.After-first-record) → let s = entry c in c .first-record .last .0 ≡ encodeRecord (s .args .originator, firstRecord (config s) (s .args .m))
-row-is c = c .first-record .ensures (config (entry c))
+-- the row that is made, and its route
+made-is : (c : tie.After-first-record) → let s = entry c in FirstIn (config s) (s .args .m) (s .args .originator) (c .first-record .last .0) (c .first-record .result)
+made-is c = c .first-record .ensures (config (entry c)) (from-first c .policy-of .ensures .0)
 
 mul-put-in : tie.Need-mul-put-in
 mul-put-in c =
@@ -58,25 +52,17 @@ put-in-requires c κs =
     let s = entry made in
     omega (arith, place-fits (now (s .args .cells)) (s .args .originator) (s .args .i) (s .pre .0) (s .pre .1), made .first-record .kept .0)
 
-route-of-requires : tie.Need-route-of-requires
-route-of-requires c κs =
-    let made = from-put (from-route c) in
-    let s = entry made in
-    subst Held (sym (row-is made)) (first-held (config s) (s .args .m) (octet s) (s .pre .2) (small s) (s .args .originator))
-
 returns : tie.Need-returns
 returns c =
-    let put = from-route (c .before) in
+    let put = from-count c in
     let made = from-put put in
     let s = entry made in
     let a = s .args in
     let κ = config s in
-    let first = firstRecord κ (a .m) in
-    let back : decodeRecord (made .first-record .last .0) ≡ (a .originator, first) = ap decodeRecord (row-is made) ∙ first-back κ (a .m) (small s) (a .originator) in
     record {
-      cells = record-in (now (a .cells)) (a .originator) (a .i) (s .pre .0) (s .pre .1) first _ _ (row-is made) (put .put-in .ensures);
+      cells = record-in (now (a .cells)) (a .originator) (a .i) (s .pre .0) (s .pre .1) (firstRecord κ (a .m)) _ _ (made-is made .cells) (put .put-in .ensures);
       best = first-best κ (a .m) (small s);
-      route = c .route-of .ensures κ (from-first made .policy-of .ensures .0 .window) ∙ ap (λ (e : ℕ × TableRecord). routeOf table κ (some (e .1))) back;
+      route = made-is made .route;
     }
 
 pub make-record-spec : {M : Type 1} → statement M
@@ -98,8 +84,5 @@ make-record-spec =
     put-in-requires
     (λ c. search needs)
     (λ c. search needs)
-    (λ c. search needs)
-    (λ c. search needs)
-    route-of-requires
     (λ c. search needs)
     returns)
