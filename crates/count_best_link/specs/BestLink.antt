@@ -6,7 +6,7 @@ use lib.Dec.{eqb}
 use Rattle.lists.specs.Keyed.{mapValues}
 use Rattle.window.specs.Window.{shift, count}
 use Rattle.rules.specs.Settings.{Config}
-use Rattle.rules.specs.Rules.{notHigher}
+use Rattle.rules.specs.Rules.{standsBelow}
 use Rattle.rules.specs.Table.{isHighest}
 use Rattle.table_record.specs.Links.{linksFrom}
 use Rattle.count_best_link.specs.declared.Step.{Step}
@@ -20,7 +20,7 @@ moved s n part = mapValues (shift (s .policy .window) (s .up)) (linksFrom n part
 
 -- a link is this one, or has no higher count than `high`
 abbrev pub yields : Config → (key high : ℕ) → ℕ × ℕ → Bool
-yields κ k high e = eqb (e .0) k || notHigher κ (count (e .1)) high
+yields κ k high e = eqb (e .0) k || standsBelow κ (count (e .1)) high
 
 -- best, once this link has the marks v
 abbrev pub chosen : Config → (key v best : ℕ) → Links → ℕ

@@ -19,15 +19,15 @@ use Rattle.window.proofs.Words.{tally-none, tally-same, tally-most}
 use Rattle.rules.specs.Settings.{Config, MakeArgs, configOf, allowed, makeAllowed}
 use Rattle.rules.specs.Calls.{Call}
 use Rattle.rules.specs.declared.Ogm.{Ogm}
-use Rattle.rules.specs.Rules.{sequenceOf, notHigher, fresh}
+use Rattle.rules.specs.Rules.{sequenceOf, standsBelow, fresh}
 use Rattle.rules.specs.Table.{TableRecord, TableState, marksAt, isMarked, table}
 use Rattle.rules.proofs.Config.{make-allowed}
-use Rattle.history.specs.Book.{Log, one, cons, latest, current, came, stays, logCount, logLinks, noneHigher, logBest, book}
+use Rattle.history.specs.Book.{Log, one, cons, latest, current, came, stays, logCount, logLinks, othersBelow, logBest, book}
 use Rattle.history.specs.TableOfBook.{recordOf}
 use Rattle.history.specs.History.{after}
-use Rattle.history.specs.Demand.{Stood, now, before, Later, past, Stayed, NoneHigher, HowMany, Best, Stands, bookThen, TablesTell}
+use Rattle.history.specs.Demand.{Stood, now, before, Later, past, Stayed, OthersBelow, HowMany, Best, Stands, bookThen, TablesTell}
 use Rattle.history.proofs.Sound.{fresh-sound, after-sound}
-use Rattle.history.proofs.Log.{W, absent, none-higher}
+use Rattle.history.proofs.Log.{W, absent, zero-below}
 use Rattle.history.proofs.Records.{count-marks, marks-at, marked-stays}
 use Rattle.history.proofs.History.{history}
 
@@ -107,29 +107,29 @@ module _ (κ : Config) (hκ : allowed κ ≡ true) where
 
   -- no other link is higher: as a test over the log's links, and of every link
   abbrev test : Log → ℕ → Bool
-  test s k = eqb k (latest s .link) || notHigher κ (logCount κ s k) (logCount κ s (latest s .link))
+  test s k = eqb k (latest s .link) || standsBelow κ (logCount κ s k) (logCount κ s (latest s .link))
 
-  from-test : (s : Log) → noneHigher κ s (latest s .link) ≡ true → NoneHigher κ s
-  unfolding noneHigher
+  from-test : (s : Log) → othersBelow κ s (latest s .link) ≡ true → OthersBelow κ s
+  unfolding othersBelow
   from-test s h l n = go (elem l (logLinks s)) refl
     where
-      go : (t : Bool) → elem l (logLinks s) ≡ t → notHigher κ (logCount κ s l) (logCount κ s (latest s .link)) ≡ true
+      go : (t : Bool) → elem l (logLinks s) ≡ t → standsBelow κ (logCount κ s l) (logCount κ s (latest s .link)) ≡ true
       go true e = or-else (eqb l (latest s .link)) _ (all-elem (test s) (logLinks s) h l e) (ne-eqb l (latest s .link) n)
-      go false e = ap (λ x. notHigher κ x (logCount κ s (latest s .link))) (count-absent s l e) ∙ none-higher κ hκ s
+      go false e = ap (λ x. standsBelow κ x (logCount κ s (latest s .link))) (count-absent s l e) ∙ zero-below κ hκ s
 
-  to-test : (s : Log) → NoneHigher κ s → noneHigher κ s (latest s .link) ≡ true
-  unfolding noneHigher
+  to-test : (s : Log) → OthersBelow κ s → othersBelow κ s (latest s .link) ≡ true
+  unfolding othersBelow
   to-test s h = all-true (test s) (λ k. go k (eqb k (latest s .link)) refl) (logLinks s)
     where
-      go : (k : ℕ) (t : Bool) → eqb k (latest s .link) ≡ t → (t || notHigher κ (logCount κ s k) (logCount κ s (latest s .link))) ≡ true
+      go : (k : ℕ) (t : Bool) → eqb k (latest s .link) ≡ t → (t || standsBelow κ (logCount κ s k) (logCount κ s (latest s .link))) ≡ true
       go k true e = refl
       go k false e = h k (eqb-false k (latest s .link) e)
 
-  first-test : (m : Ogm) → noneHigher κ (one m) (m .link) ≡ true
-  unfolding noneHigher logLinks
-  first-test m = ap (λ (t : Bool). (t || notHigher κ (logCount κ (one m) (m .link)) (logCount κ (one m) (m .link))) && true) (eq-eqb (m .link) (m .link) refl)
+  first-test : (m : Ogm) → othersBelow κ (one m) (m .link) ≡ true
+  unfolding othersBelow logLinks
+  first-test m = ap (λ (t : Bool). (t || standsBelow κ (logCount κ (one m) (m .link)) (logCount κ (one m) (m .link))) && true) (eq-eqb (m .link) (m .link) refl)
 
-  best-latest : (s : Log) → noneHigher κ s (latest s .link) ≡ true → Best κ s (latest s .link)
+  best-latest : (s : Log) → othersBelow κ s (latest s .link) ≡ true → Best κ s (latest s .link)
   best-latest s h =
       record {
         at = s;
@@ -142,13 +142,13 @@ module _ (κ : Config) (hκ : allowed κ ≡ true) where
   best-is : (s : Log) → Best κ s (logBest κ s)
   unfolding logBest
   best-is (one m) = best-latest (one m) (first-test m)
-  best-is (cons m s) = go (noneHigher κ (cons m s) (m .link)) refl (best-is s)
+  best-is (cons m s) = go (othersBelow κ (cons m s) (m .link)) refl (best-is s)
     where
-      go : (t : Bool) → noneHigher κ (cons m s) (m .link) ≡ t → Best κ s (logBest κ s) → Best κ (cons m s) (cond t (m .link) (logBest κ s))
+      go : (t : Bool) → othersBelow κ (cons m s) (m .link) ≡ t → Best κ s (logBest κ s) → Best κ (cons m s) (cond t (m .link) (logBest κ s))
       go true e r = best-latest (cons m s) e
       go false e r = record { at = r .at; stood = before (r .stood); link = r .link; highest = r .highest; last = last }
         where
-          last : (u : Log) → Stood (cons m s) u → Later u (r .at) → NoneHigher κ u → ⊥
+          last : (u : Log) → Stood (cons m s) u → Later u (r .at) → OthersBelow κ u → ⊥
           last u now b t = false≢true (sym e ∙ to-test (cons m s) t)
           last u (before a) b t = r .last u a b t
 

@@ -13,7 +13,7 @@ use Rattle.window.proofs.Numbers.{distance-back, distance-self, distance-higher
 use Rattle.window.proofs.Words.{some-tally}
 use Rattle.rules.specs.Settings.{Config, allowed}
 use Rattle.rules.specs.declared.Ogm.{Ogm}
-use Rattle.rules.specs.Rules.{sequenceOf, notHigher}
+use Rattle.rules.specs.Rules.{sequenceOf, standsBelow}
 use Rattle.rules.proofs.Config.{window-low, window-high}
 use Rattle.rules.proofs.Counting.{sequence-lt, advance-lt, advance-inside}
 use Rattle.history.specs.Book.{Log, one, cons, latest, current, came, stays, logCount, logLinks}
@@ -117,6 +117,6 @@ module _ (κ : Config) where
         (ap (stays κ s (latest s .link)) (distance-back (current κ s) (sequenceOf (latest s)) (current-lt s) (sequence-lt (latest s))) ∙ latest-stays s)
 
     -- and one without a mark is not higher
-    pub none-higher : (s : Log) → notHigher κ 0 (logCount κ s (latest s .link)) ≡ true
-    unfolding notHigher
-    none-higher s = le-leb 0 (logCount κ s (latest s .link)) (omega (arith, latest-some s))
+    pub zero-below : (s : Log) → standsBelow κ 0 (logCount κ s (latest s .link)) ≡ true
+    unfolding standsBelow
+    zero-below s = le-leb 0 (logCount κ s (latest s .link)) (omega (arith, latest-some s))

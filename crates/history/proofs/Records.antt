@@ -18,13 +18,13 @@ use Rattle.window.proofs.Words.{word-same, word-none, tally-none, none-tally}
 use Rattle.window.proofs.Window.{laws, word-laws}
 use Rattle.rules.specs.Settings.{Config, allowed}
 use Rattle.rules.specs.declared.Ogm.{Ogm}
-use Rattle.rules.specs.Rules.{sequenceOf, notHigher}
+use Rattle.rules.specs.Rules.{sequenceOf, standsBelow}
 use Rattle.rules.specs.Table.{TableRecord, marksAt, isHighest, settle, withLinks, moveTo, firstRecord, nextRecord, isMarked}
 use Rattle.rules.proofs.Config.{window-low, window-high}
 use Rattle.rules.proofs.Counting.{sequence-lt}
-use Rattle.history.specs.Book.{Log, one, cons, current, stays, logCount, logLinks, noneHigher, logBest, isHeld, heldLinks}
+use Rattle.history.specs.Book.{Log, one, cons, current, stays, logCount, logLinks, othersBelow, logBest, isHeld, heldLinks}
 use Rattle.history.specs.TableOfBook.{marksOf, recordOf}
-use Rattle.history.proofs.Log.{W, current-lt, outside-false, absent, inside-below, stays-next, latest-in, none-higher}
+use Rattle.history.proofs.Log.{W, current-lt, outside-false, absent, inside-below, stays-next, latest-in, zero-below}
 
 -- ---- the words of a log's links
 
@@ -119,7 +119,7 @@ module _ (κ : Config) (h : allowed κ ≡ true) (m : Ogm) (s : Log) where
   unfolding isHeld logBest
   held-next l e q =
       ap₂ (λ (n : ℕ) (t : Bool). ltb 0 n || t) (none-next l e q)
-      (by-test (λ b. eqb l b ≡ false) (noneHigher κ (cons m s) (m .link)) (λ _. e) (λ _. or-neither (ltb 0 (logCount κ s l)) (eqb l (logBest κ s)) q .1))
+      (by-test (λ b. eqb l b ≡ false) (othersBelow κ (cons m s) (m .link)) (λ _. e) (λ _. or-neither (ltb 0 (logCount κ s l)) (eqb l (logBest κ s)) q .1))
 
   -- the record's links with the OGM's link among them, before those without a mark go
   abbrev among : List (ℕ × ℕ)
@@ -141,14 +141,14 @@ module _ (κ : Config) (h : allowed κ ≡ true) (m : Ogm) (s : Log) where
       ∙ marksAt-tabulate κ s (λ l. up (marksOf κ s l)) (m .link) (heldLinks κ s) (λ e. ap up (marks-off κ s (m .link) e) ∙ up-zero)
 
   -- no other held link is higher: no other link at all is
-  highest-next : isHighest κ (m .link) (marksOf κ (cons m s) (m .link)) among ≡ noneHigher κ (cons m s) (m .link)
-  unfolding noneHigher logLinks
+  highest-next : isHighest κ (m .link) (marksOf κ (cons m s) (m .link)) among ≡ othersBelow κ (cons m s) (m .link)
+  unfolding othersBelow logLinks
   highest-next =
-      let p : ℕ → Bool = λ l. eqb l (m .link) || notHigher κ (logCount κ (cons m s) l) (logCount κ (cons m s) (m .link)) in
+      let p : ℕ → Bool = λ l. eqb l (m .link) || standsBelow κ (logCount κ (cons m s) l) (logCount κ (cons m s) (m .link)) in
       all-map (λ l. (l, marksOf κ (cons m s) l)) _ (putKey (m .link) (heldLinks κ s))
-      ∙ all-same _ p (λ l. ap₂ (λ x y. eqb l (m .link) || notHigher κ x y) (count-marks κ (cons m s) l) (count-marks κ (cons m s) (m .link))) (putKey (m .link) (heldLinks κ s))
+      ∙ all-same _ p (λ l. ap₂ (λ x y. eqb l (m .link) || standsBelow κ x y) (count-marks κ (cons m s) l) (count-marks κ (cons m s) (m .link))) (putKey (m .link) (heldLinks κ s))
       ∙ all-putKey p (isHeld κ s) (m .link)
-      (λ l e q. ap₂ (λ (t : Bool) (n : ℕ). t || notHigher κ n (logCount κ (cons m s) (m .link))) e (none-next l e q) ∙ none-higher κ h (cons m s)) (logLinks s)
+      (λ l e q. ap₂ (λ (t : Bool) (n : ℕ). t || standsBelow κ n (logCount κ (cons m s) (m .link))) e (none-next l e q) ∙ zero-below κ h (cons m s)) (logLinks s)
 
   kept-next : keep (λ (e : ℕ × ℕ). hasMark (e .1) || eqb (e .0) (logBest κ (cons m s))) among ≡ recordOf κ (cons m s) .links
   unfolding logLinks isHeld
@@ -200,7 +200,7 @@ module _ (κ : Config) (h : allowed κ ≡ true) (m : Ogm) where
   first-one =
       let v = mark 0 (distance (sequenceOf m) (sequenceOf m)) in
       let t : eqb (m .link) (m .link) ≡ true = eq-eqb (m .link) (m .link) refl in
-      ap (λ b. single b (cond (hasMark v || eqb (m .link) b) ((m .link, v) ∷ []) [])) (cond-same ((eqb (m .link) (m .link) || notHigher κ (count v) (count v)) && true) (m .link))
+      ap (λ b. single b (cond (hasMark v || eqb (m .link) b) ((m .link, v) ∷ []) [])) (cond-same ((eqb (m .link) (m .link) || standsBelow κ (count v) (count v)) && true) (m .link))
       ∙ ap (λ (u : Bool). single (m .link) (cond u ((m .link, v) ∷ []) [])) (or-right (hasMark v) (eqb (m .link) (m .link)) t)
       ∙ ap (λ n. single (m .link) ((m .link, n) ∷ [])) one-marks
       ∙ sym (ap (λ (u : Bool). single (m .link) (tabulate (marksOf κ (one m)) (cond u (m .link ∷ []) []))) (or-right (ltb 0 (logCount κ (one m) (m .link))) (eqb (m .link) (m .link)) t))

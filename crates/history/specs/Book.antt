@@ -10,7 +10,7 @@ use Rattle.window.specs.Window.{distance, inside, tally}
 use Rattle.rules.specs.Settings.{Config}
 use Rattle.rules.specs.Calls.{interfaceOf}
 use Rattle.rules.specs.declared.Ogm.{Ogm}
-use Rattle.rules.specs.Rules.{sequenceOf, notHigher, Reading, State}
+use Rattle.rules.specs.Rules.{sequenceOf, standsBelow, Reading, State}
 
 -- ---- an originator's counted OGMs
 
@@ -47,13 +47,13 @@ logLinks (one m) = m .link ∷ []
 logLinks (cons m s) = putKey (m .link) (logLinks s)
 
 -- no other link stands higher than l
-unfoldable pub noneHigher : Config → Log → (l : ℕ) → Bool
-noneHigher κ s l = all (λ k. eqb k l || notHigher κ (logCount κ s k) (logCount κ s l)) (logLinks s)
+unfoldable pub othersBelow : Config → Log → (l : ℕ) → Bool
+othersBelow κ s l = all (λ k. eqb k l || standsBelow κ (logCount κ s k) (logCount κ s l)) (logLinks s)
 
 -- the link of the latest OGM after whose count no other link stood higher
 unfoldable pub logBest : Config → Log → ℕ
 logBest κ (one m) = m .link
-logBest κ (cons m s) = cond (noneHigher κ (cons m s) (m .link)) (m .link) (logBest κ s)
+logBest κ (cons m s) = cond (othersBelow κ (cons m s) (m .link)) (m .link) (logBest κ s)
 
 -- links with a mark or best are held
 unfoldable pub isHeld : Config → Log → (l : ℕ) → Bool

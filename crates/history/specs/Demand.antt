@@ -12,7 +12,7 @@ use Rattle.window.specs.Window.{numbers, distance, count, tally}
 use Rattle.rules.specs.Settings.{Config, MakeArgs, configOf}
 use Rattle.rules.specs.Calls.{Call}
 use Rattle.rules.specs.declared.Ogm.{Ogm}
-use Rattle.rules.specs.Rules.{sequenceOf, notHigher, fresh}
+use Rattle.rules.specs.Rules.{sequenceOf, standsBelow, fresh}
 use Rattle.rules.specs.Table.{TableRecord, TableState, marksAt, isMarked, table}
 use Rattle.history.specs.Book.{Log, cons, latest, current, logCount, book, BookState}
 use Rattle.history.specs.History.{after, replies}
@@ -43,16 +43,16 @@ pub record HowMany (κ : Config) (t : Log) (l : ℕ) : Type 0 where
   pub number : logCount κ t l ≡ tally (κ .settings .window) (λ k. hasStayed (distance (current κ t) k))
 
 -- after the latest count of t no other link stood higher than its link
-abbrev pub NoneHigher : Config → Log → Type 0
-NoneHigher κ t = (l : ℕ) → (l ≡ latest t .link → ⊥) → notHigher κ (logCount κ t l) (logCount κ t (latest t .link)) ≡ true
+abbrev pub OthersBelow : Config → Log → Type 0
+OthersBelow κ t = (l : ℕ) → (l ≡ latest t .link → ⊥) → standsBelow κ (logCount κ t l) (logCount κ t (latest t .link)) ≡ true
 
 -- b is the link of the latest message after whose count no other link stood higher
 pub record Best (κ : Config) (s : Log) (b : ℕ) : Type 0 where
   pub at : Log
   pub stood : Stood s at
   pub link : latest at .link ≡ b
-  pub highest : NoneHigher κ at
-  pub last : (u : Log) → Stood s u → Later u at → NoneHigher κ u → ⊥
+  pub highest : OthersBelow κ at
+  pub last : (u : Log) → Stood s u → Later u at → OthersBelow κ u → ⊥
 
 -- ---- how the record r of the counted messages s stands
 

@@ -27,8 +27,8 @@ abbrev pub sequenceOf : Ogm → ℕ
 sequenceOf m = m .sequence % numbers
 
 -- a link with count x does not stand higher than one with count y (RULES 6.5)
-unfoldable pub notHigher : Config → (x y : ℕ) → Bool
-notHigher κ x y = leb x y
+unfoldable pub standsBelow : Config → (x y : ℕ) → Bool
+standsBelow κ x y = leb x y
 
 -- send states: the last sent number under each interface that has sent
 abbrev pub Sends : Type 0

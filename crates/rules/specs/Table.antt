@@ -10,7 +10,7 @@ use Rattle.window.specs.Window.{distance, inside, advance, marked, shift, mark,
 use Rattle.rules.specs.Settings.{Config}
 use Rattle.rules.specs.Calls.{interfaceOf}
 use Rattle.rules.specs.declared.Ogm.{Ogm}
-use Rattle.rules.specs.Rules.{sequenceOf, notHigher, Sends, lastSent, Reading, State}
+use Rattle.rules.specs.Rules.{sequenceOf, standsBelow, Sends, lastSent, Reading, State}
 
 -- ---- records
 
@@ -27,7 +27,7 @@ marksAt ls l = maybe (lookup l ls) 0 (λ v. v)
 
 -- no other link has a higher count than link l with the word v (RULES 6.5)
 abbrev pub isHighest : Config → (l v : ℕ) → List (ℕ × ℕ) → Bool
-isHighest κ l v ls = all (λ (e : ℕ × ℕ). eqb (e .0) l || notHigher κ (count (e .1)) (count v)) ls
+isHighest κ l v ls = all (λ (e : ℕ × ℕ). eqb (e .0) l || standsBelow κ (count (e .1)) (count v)) ls
 
 -- the record x, in which this link has the word v, once the message is counted: this link is best if no other then has a higher count,
 -- otherwise best stays, even with count 0; a link with no mark that isn't best gives up its place

@@ -4,12 +4,12 @@ use mathlib.Core.Path.{ap}
 use Prim.Native.Nat.{ℕ}
 use mathlib.Core.Bool.{_||_}
 use lib.Dec.{eqb, leb}
-use Rattle.rules.specs.Rules.{notHigher}
+use Rattle.rules.specs.Rules.{standsBelow}
 use Rattle.count_best_link.proofs.yields.Statement.{statement}
 use Rattle.count_best_link.proofs.yields.Tie as tie
 
 returns : tie.Need-returns
-unfolding notHigher
+unfolding standsBelow
 returns c κ f = ap (λ (n : ℕ). eqb (c .before .args .key) (c .before .args .this) || leb n (c .before .args .high)) (c .count .ensures)
 
 pub yields-spec : {M : Type 1} → statement M
