@@ -6,6 +6,8 @@
 #include <stdlib.h>
 #include <string.h>
 
+#include "batman.h"
+
 enum { SIDE_MOST = 16 }; /* 256 readers: each table holds at most 256 originators */
 
 struct option {
@@ -15,7 +17,7 @@ struct option {
     const char **text; /* or for one that is a text */
 };
 
-enum { OPTIONS = 6 };
+enum { OPTIONS = 7 };
 
 static void list_options(struct options *o, struct option list[OPTIONS])
 {
@@ -24,7 +26,8 @@ static void list_options(struct options *o, struct option list[OPTIONS])
     list[2] = (struct option){"--loss", "N", "packets of 100 lost between next readers, 0 to 90", 0, 90, &o->loss, NULL};
     list[3] = (struct option){"--rounds", "N", "rounds, in which each reader sends once, 1 to 100000", 1, 100000, &o->rounds, NULL};
     list[4] = (struct option){"--seed", "N", "any number; the same one gives the same run", 0, UINT64_MAX, &o->seed, NULL};
-    list[5] = (struct option){"--svg", "FILE", "draw the next hops towards reader 0", 0, 0, NULL, &o->svg};
+    list[5] = (struct option){"--tie", "N", "0 newest wins, 1 present link stays", BATMAN_NEWEST_WINS, BATMAN_PRESENT_STAYS, &o->tie, NULL};
+    list[6] = (struct option){"--svg", "FILE", "draw the next hops towards reader 0", 0, 0, NULL, &o->svg};
 }
 
 static void help(const struct option list[OPTIONS])
@@ -79,7 +82,7 @@ static const struct option *named(const struct option list[OPTIONS], const char 
 
 struct options read_options(int count, char **argument)
 {
-    struct options o = {.columns = 6, .rows = 4, .loss = 40, .rounds = 150, .seed = 5, .svg = NULL};
+    struct options o = {.columns = 6, .rows = 4, .loss = 40, .rounds = 150, .seed = 5, .tie = BATMAN_PRESENT_STAYS, .svg = NULL};
     struct option list[OPTIONS];
     list_options(&o, list);
     for (int i = 1; i < count; i += 2) {

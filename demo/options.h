@@ -5,7 +5,7 @@
 #include <stdint.h>
 
 struct options {
-    uint64_t columns, rows, loss, rounds, seed;
+    uint64_t columns, rows, loss, rounds, seed, tie;
     const char *svg; /* NULL for no picture */
 };
 

@@ -4,7 +4,7 @@
 #include <stdio.h>
 #include <stdlib.h>
 
-enum { INTERFACE = 0, VERSION = 4, WINDOW = 64, LINK_TIMEOUT = 32, TTL = 50, NO_GATEWAY = 0, NO_PORT = 0, BROADCAST = 0x0a00ffff };
+enum { INTERFACE = 0, TTL = 50, NO_GATEWAY = 0, NO_PORT = 0, BROADCAST = 0x0a00ffff };
 
 /* An answer that only a fault of this program or of the memory can bring: going on would route by a table that can't be trusted. */
 static _Noreturn void stop(const struct reader *r, const char *call, uint64_t number)
@@ -15,8 +15,10 @@ static _Noreturn void stop(const struct reader *r, const char *call, uint64_t nu
 
 bool reader_open(struct reader *r, uint32_t address, struct reader_settings s)
 {
-    struct batman_settings settings = {
-        .version = VERSION, .window = WINDOW, .timeout = LINK_TIMEOUT, .purge = s.purge, .capacity = s.capacity};
+    struct batman_settings settings = BATMAN_SETTINGS_DEFAULT;
+    settings.purge = s.purge;
+    settings.capacity = s.capacity;
+    settings.tie = s.tie;
     struct batman_interfaces interfaces = {.row = {{.own = address, .broadcast = BROADCAST, .first = s.first}}, .used = 1};
     *r = (struct reader){.address = address, .count = (size_t)batman_cells_needed(s.capacity)};
     r->cells = calloc(r->count > 0 ? r->count : 1, sizeof *r->cells);

@@ -20,6 +20,7 @@ struct reader_settings {
     unsigned capacity; /* originators held */
     uint64_t purge;    /* ms without a message after which an originator is forgotten */
     uint16_t first;    /* the first sequence number */
+    uint64_t tie;      /* one of enum batman_tie */
 };
 
 /* False where there is no memory; settings that are not allowed stop the program. */

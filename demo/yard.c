@@ -30,8 +30,8 @@ struct traffic {
     unsigned long own, passed_on, heard, lost;
 };
 
-/* Routes known; those that lead to their destination when each reader follows its own; and the hops of these. By the rules a link that draws
- * level with the best takes its place, so where little is lost many links stand level, and hops lead into rings: fewer routes arrive. */
+/* Routes known; those that lead to their destination when each reader follows its own; and the hops of these. Where little is lost many links stand
+ * level, or nearly, and hops may lead into rings. With newest wins (--tie 0) far more do: a link that draws level with the best takes its place. */
 struct coverage {
     unsigned long known, arrive, hops;
 };
@@ -85,7 +85,8 @@ static void open_yard(struct yard *y, struct options o)
     if (y->reader == NULL || y->hop == NULL || !radio_open(&y->radio, (unsigned)o.columns, (unsigned)o.rows, (unsigned)o.loss, o.seed))
         fail("no memory");
     for (unsigned i = 0; i < y->readers; i++) {
-        struct reader_settings s = {.capacity = y->readers > 1 ? y->readers - 1 : 1, .purge = PURGE, .first = (uint16_t)random_next(&y->radio.random)};
+        struct reader_settings s = {.capacity = y->readers > 1 ? y->readers - 1 : 1, .purge = PURGE, .tie = o.tie,
+                                    .first = (uint16_t)random_next(&y->radio.random)};
         if (!reader_open(&y->reader[i], address_of(y, i), s))
             fail("no memory");
     }
@@ -211,8 +212,8 @@ static unsigned long possible(const struct yard *y) { return (unsigned long)y->r
 static void print_head(const struct yard *y)
 {
     const struct options *o = &y->options;
-    printf("%" PRIu64 " x %" PRIu64 " readers, loss %" PRIu64 " of 100, seed %" PRIu64 "; %lu routes are possible\n\n", o->columns, o->rows, o->loss,
-           o->seed, possible(y));
+    printf("%" PRIu64 " x %" PRIu64 " readers, loss %" PRIu64 " of 100, seed %" PRIu64 ", tie %" PRIu64 "; %lu routes are possible\n\n",
+           o->columns, o->rows, o->loss, o->seed, o->tie, possible(y));
     printf("%6s %8s %10s %9s %9s %9s %9s %10s\n", "round", "own", "passed on", "heard", "lost", "routes", "arrive", "mean hops");
 }
 
@@ -264,7 +265,8 @@ static void draw(const struct yard *y)
         hop[i].arrives = i != GATE && hops_between(y, i, GATE) > 0;
     }
     snprintf(title, sizeof title, "Next hops towards reader %d", GATE);
-    snprintf(subtitle, sizeof subtitle, "%u readers, loss %" PRIu64 " of 100, after %" PRIu64 " rounds, seed %" PRIu64, y->readers, o->loss, o->rounds, o->seed);
+    snprintf(subtitle, sizeof subtitle, "%u readers, loss %" PRIu64 " of 100, after %" PRIu64 " rounds, seed %" PRIu64 ", tie %" PRIu64,
+             y->readers, o->loss, o->rounds, o->seed, o->tie);
     struct drawing d = {(unsigned)o->columns, (unsigned)o->rows, GATE, title, subtitle, hop};
     bool drawn = svg_draw(o->svg, &d);
     if (!drawn)

@@ -26,7 +26,7 @@ enum batman_limit {
     BATMAN_NEIGHBOURS_MOST = 32,  /* neighbour rows held */
     BATMAN_LINKS_MOST = 8,        /* links held of one originator */
     BATMAN_CAPACITY_MOST = 256,   /* originators held */
-    BATMAN_TABLE_CELLS = 93,      /* cells of a table before its records */
+    BATMAN_TABLE_CELLS = 94,      /* cells of a table before its records */
     BATMAN_RECORD_CELLS = 22,     /* cells of a record, one for each originator of the capacity */
     BATMAN_CELLS_MOST = BATMAN_CELLS(BATMAN_CAPACITY_MOST)
 };
@@ -79,14 +79,25 @@ static inline uint64_t batman_refusal_place(uint64_t answer) { return answer / 2
  * out. Every call but make and the packet check begins by checking the whole table: cells that are no well-formed table are refused by 1.
  * A refused call answers its number, every other field 0 (but the place for 8), and changes no cell, no octet and no row. */
 
-/* What a table is made with. Values that are not allowed are refused by 12. */
+/* A link on which a message was counted becomes best where its count is above every other link's. Where it is level with the highest of them: */
+enum batman_tie {
+    BATMAN_NEWEST_WINS = 0,  /* it becomes best too: among equally good links the route jumps with every message */
+    BATMAN_PRESENT_STAYS = 1 /* the link that is best stays best */
+};
+
+/* What a table is made with. Values that are not allowed are refused by 12. Take BATMAN_SETTINGS_DEFAULT and change what you want: a member that an
+ * initialiser leaves out is 0, and a tie of 0 is newest wins, not the default. Whoever counts on newest wins names it. */
 struct batman_settings {
     uint64_t version;  /* 0 to 255; the default is 4 */
     uint64_t window;   /* 1 to 64 sequence numbers; 64 */
     uint64_t timeout;  /* link timeout in own messages, 1 to 1,000; 32 */
     uint64_t purge;    /* purge timeout in milliseconds, 1 to 2^32 - 1; 640,000 */
     uint64_t capacity; /* originators held, 1 to 256; 64 */
+    uint64_t tie;      /* one of enum batman_tie; BATMAN_PRESENT_STAYS */
 };
+
+/* Every setting's default: struct batman_settings settings = BATMAN_SETTINGS_DEFAULT; */
+#define BATMAN_SETTINGS_DEFAULT {4, 64, 32, 640000, 64, BATMAN_PRESENT_STAYS}
 
 struct batman_interface {
     uint32_t own;       /* own address; those in use differ */

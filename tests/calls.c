@@ -7,7 +7,7 @@
 #include "batman.h"
 
 /* Places in a table that are looked at here, by docs/LAYOUT.md. */
-enum { VERSION_AT = 0, TIME_AT = 6, INTERFACES_AT = 9, INTERFACE_CELLS = 5 };
+enum { VERSION_AT = 0, TIE_AT = 5, TIME_AT = 7, INTERFACES_AT = 10, INTERFACE_CELLS = 5 };
 
 enum { CELLS = BATMAN_CELLS(64) };
 
@@ -31,7 +31,7 @@ static void expect(const char *what, uint64_t is, uint64_t should)
 
 static uint64_t cells[CELLS], kept[CELLS];
 
-static const struct batman_settings defaults = {4, 64, 32, 640000, 64};
+static const struct batman_settings defaults = BATMAN_SETTINGS_DEFAULT;
 static const struct batman_interfaces two = {{{100, 255, 65535}, {101, 255, 7}, {100, 0, 0}, {100, 0, 0}}, 2};
 
 /* One way to break a setting or an interface row, each refused by 12 with nothing changed. */
@@ -56,6 +56,9 @@ static void making(void)
     refused("purge 2^32", (s.purge = 4294967296u, s), f, CELLS), s = defaults;
     refused("capacity 0", (s.capacity = 0, s), f, CELLS), s = defaults;
     refused("capacity 257", (s.capacity = 257, s), f, CELLS), s = defaults;
+    refused("tie 2", (s.tie = 2, s), f, CELLS), s = defaults;
+    refused("tie 2^32 + 1", (s.tie = 4294967297u, s), f, CELLS), s = defaults;
+    refused("tie 2^64 - 1", (s.tie = UINT64_MAX, s), f, CELLS), s = defaults;
     refused("none in use", s, (f.used = 0, f), CELLS), f = two;
     refused("five in use", s, (f.used = 5, f), CELLS), f = two;
     refused("three in use with an address twice", s, (f.used = 3, f), CELLS), f = two;
@@ -64,6 +67,18 @@ static void making(void)
     expect("make", batman_make(cells, CELLS, s, f), 0);
     for (size_t i = INTERFACES_AT + INTERFACE_CELLS * f.used; i < CELLS; i++)
         expect("a cell behind the interface rows in use", cells[i], 0);
+}
+
+/* The default settings are those of RULES 2.1, each of them named here; an initialiser without a tie has newest wins. */
+static void making_with_defaults(void)
+{
+    struct batman_settings named = {.version = 4, .window = 64, .timeout = 32, .purge = 640000, .capacity = 64};
+    expect("make, no tie named", batman_make(cells, CELLS, named, two), 0);
+    expect("its tie", cells[TIE_AT], BATMAN_NEWEST_WINS);
+    named.tie = BATMAN_PRESENT_STAYS;
+    expect("make, every setting named", batman_make(kept, CELLS, named, two), 0);
+    expect("make, the default settings", batman_make(cells, CELLS, defaults, two), 0);
+    expect("the default settings are others", memcmp(cells, kept, sizeof cells) != 0, 0);
 }
 
 /* The macro, which a constant needs, and the function say the same of every capacity that is allowed. */
@@ -130,9 +145,9 @@ static void asking_and_sweeping(void)
     expect("a refused call changed a cell", memcmp(cells, kept, sizeof cells) != 0, 0);
 }
 
-/* ---- receiving: a table of its own, two interfaces, room for two originators, link timeout 1,000 */
+/* ---- receiving: a table of its own, two interfaces, room for two originators */
 
-enum { US = 100, US_TOO = 101, BROADCAST = 255, SMALL = BATMAN_CELLS(2) };
+enum { US = 100, US_TOO = 101, BROADCAST = 255, ORIGINATORS = 2, SMALL = BATMAN_CELLS(ORIGINATORS) };
 
 static uint64_t small[SMALL], small_kept[SMALL];
 static uint8_t output[BATMAN_PACKET_MOST];
@@ -142,6 +157,21 @@ static struct batman_received hear(uint32_t sender, uint32_t originator, uint16_
 {
     uint8_t packet[BATMAN_HEADER_SIZE] = {4, flags, ttl, 0, (uint8_t)(number >> 8), (uint8_t)number, 0, 0, 0, 0, (uint8_t)(originator >> 8), (uint8_t)originator};
     return batman_receive(small, SMALL, packet, sizeof packet, sender, 0, 9, output, sizeof output);
+}
+
+/* Makes the table with these settings and sends our first packet. */
+static void begin(struct batman_settings s)
+{
+    s.capacity = ORIGINATORS;
+    expect("make", batman_make(small, SMALL, s, two), 0);
+    expect("own packet", batman_own_packet(small, SMALL, 0, 9, 50, 0, 0, NULL, 0, output, sizeof output).sequence, 65535);
+}
+
+/* The packet comes back from the neighbours 1 to `neighbours`: their links are bidirectional. */
+static void echo(uint32_t neighbours)
+{
+    for (uint32_t neighbour = 1; neighbour <= neighbours; neighbour++)
+        expect("an echo", seen(hear(neighbour, US, 65535, 64, 50).number), BATMAN_ECHO);
 }
 
 /* One packet as it stands, refused with nothing changed. */
@@ -241,9 +271,9 @@ static void changed_tables(void)
 
 static void verdicts(void)
 {
-    struct batman_settings s = {4, 64, 1000, 640000, 2};
-    expect("make", batman_make(small, SMALL, s, two), 0);
-    expect("own packet", batman_own_packet(small, SMALL, 0, 9, 50, 0, 0, NULL, 0, output, sizeof output).sequence, 65535);
+    struct batman_settings s = defaults;
+    s.timeout = 1000;
+    begin(s);
 
     expect("from one of our addresses", seen(hear(US_TOO, 900, 1, 0, 50).number), BATMAN_OWN_SENDER);
     expect("from one of our broadcast addresses", seen(hear(BROADCAST, 900, 1, 0, 50).number), BATMAN_OWN_BROADCAST);
@@ -252,8 +282,7 @@ static void verdicts(void)
     expect("U and D of its copy", output[1], 192);
     expect("the copy's TTL", output[2], 49);
     expect("no route yet", batman_best(small, SMALL, 7).route.window, 0);
-    for (uint32_t neighbour = 1; neighbour <= BATMAN_NEIGHBOURS_MOST; neighbour++)
-        expect("an echo", seen(hear(neighbour, US, 65535, 64, 50).number), BATMAN_ECHO);
+    echo(BATMAN_NEIGHBOURS_MOST);
     expect("a 33rd neighbour row", seen(hear(33, US, 65535, 64, 50).number), BATMAN_NEIGHBOURS_FULL);
     expect("U set", seen(hear(7, 900, 1, 128, 50).number), BATMAN_UNIDIRECTIONAL);
 
@@ -280,6 +309,67 @@ static void verdicts(void)
     expect("swept", swept.removed, 2);
 }
 
+/* ---- ties: originator 900 over the links A, B and C, in a window of 8 */
+
+/* Hears a number that this link hasn't brought yet: which link is then best. The message is passed on exactly if it came by that one. */
+static void counted(const char *what, uint32_t link, uint16_t number, uint32_t best)
+{
+    struct batman_received r = hear(link, 900, number, 0, 50);
+    expect(what, r.route.neighbour, best);
+    expect(what, r.number, link == best ? BATMAN_PASSED_ON : BATMAN_KEPT);
+}
+
+/* The neighbours 1 to 3 are A, B and C, in one order or another. */
+static void begin_ties(enum batman_tie tie)
+{
+    struct batman_settings s = defaults;
+    s.window = 8;
+    s.tie = tie;
+    begin(s);
+    echo(3);
+}
+
+/* P8 of RULES 11.1: A is best with 9 and 10, C has 9 and draws level by 10. */
+static void level_with_best(enum batman_tie tie, uint32_t a, uint32_t c)
+{
+    begin_ties(tie);
+    counted("9 via A", a, 9, a);
+    counted("10 via A", a, 10, a);
+    counted("9 via C", c, 9, a);
+    counted("10 via C", c, 10, tie == BATMAN_NEWEST_WINS ? c : a);
+    counted("11 via C", c, 11, c);
+}
+
+/* P7 of RULES 11.1: 12 leaves the best link A with 5 alone and C with 9 and 10. Then B draws level with C, above A; A with both; and B passes them. */
+static void level_above_best(enum batman_tie tie, uint32_t a, uint32_t b, uint32_t c)
+{
+    begin_ties(tie);
+    for (uint16_t number = 3; number <= 5; number++)
+        counted("3 to 5 via A", a, number, a);
+    counted("9 via C", c, 9, a);
+    counted("10 via C", c, 10, a);
+    counted("12 via B", b, 12, a);
+    counted("11 via B", b, 11, tie == BATMAN_NEWEST_WINS ? b : a);
+    counted("11 via A", a, 11, a);
+    counted("10 via B", b, 10, b);
+    counted("30 via C, the others have none left", c, 30, c);
+}
+
+static void ties(void)
+{
+    for (int tie = BATMAN_NEWEST_WINS; tie <= BATMAN_PRESENT_STAYS; tie++) {
+        level_with_best(tie, 1, 3);
+        level_with_best(tie, 3, 1);
+        level_above_best(tie, 1, 2, 3);
+        level_above_best(tie, 3, 2, 1);
+        small[TIE_AT] = !tie;
+        expect("the other tie in the cell", batman_best(small, SMALL, 900).number, 0);
+        small[TIE_AT] = 2;
+        expect("a tie of 2 in the cell", batman_best(small, SMALL, 900).number, BATMAN_NOT_WELL_FORMED);
+        judged_alike();
+    }
+}
+
 /* Every refusal and every verdict. */
 static void all_came_up(void)
 {
@@ -292,9 +382,11 @@ int main(void)
 {
     sizes();
     making();
+    making_with_defaults();
     sending();
     asking_and_sweeping();
     verdicts();
+    ties();
     all_came_up();
     printf("calls: %lu answers and cells compared; %lu differ\n", compared, differing);
     return differing != 0;

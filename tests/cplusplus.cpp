@@ -6,9 +6,13 @@
 
 static_assert(BATMAN_CELLS(BATMAN_CAPACITY_MOST) == BATMAN_CELLS_MOST, "BATMAN_CELLS of a constant is one");
 
+static constexpr batman_settings defaults = BATMAN_SETTINGS_DEFAULT;
+static_assert(defaults.tie == BATMAN_PRESENT_STAYS, "the last member is in the initialiser");
+
 int main()
 {
-    batman_settings settings = {4, 64, 32, 640000, 2};
+    batman_settings settings = defaults;
+    settings.capacity = 2;
     batman_interfaces interfaces = {};
     interfaces.row[0] = {100, 255, 7};
     interfaces.used = 1;

@@ -135,9 +135,9 @@ static void hear_round(struct mesh *m, unsigned without)
 
 /* ---- the mesh */
 
-static void open_mesh(struct mesh *m, unsigned originators)
+static void open_mesh(struct mesh *m, unsigned originators, enum batman_tie tie)
 {
-    struct batman_settings s = {.version = 4, .window = 64, .timeout = 1000, .purge = PURGE, .capacity = originators};
+    struct batman_settings s = {.version = 4, .window = 64, .timeout = 1000, .purge = PURGE, .capacity = originators, .tie = tie};
     struct batman_interfaces f = {.row = {{0x0a020001, 0x0a02ffff, 1}, {0x0a020002, 0x0a02ffff, 1}}, .used = 2};
     *m = (struct mesh){.originators = originators, .calls = originators > 64 ? 256 : originators > 16 ? 512 : CALLS_MOST,
                        .copies = originators > 64 ? 8 : originators > 16 ? 16 : COPIES_MOST, .random = random_seeded(originators)};
@@ -372,7 +372,7 @@ static void time_mesh(unsigned originators)
     static const struct row sweep_one = {"sweep, one removed", prepare_copies, play_sweep_one, true};
     static const struct row first = {"receive, first of originator", prepare_copies, play_first, true};
     static struct mesh m;
-    open_mesh(&m, originators);
+    open_mesh(&m, originators, BATMAN_NEWEST_WINS); /* as it was before there was a choice: these rows stay comparable */
     for (size_t i = 0; i < sizeof steady / sizeof *steady; i++)
         time_row(&m, &steady[i]);
     age_one(&m);
@@ -383,14 +383,26 @@ static void time_mesh(unsigned originators)
     close_mesh(&m);
 }
 
+static void time_ties(unsigned originators)
+{
+    static const struct row stay = {"receive, relayed, ties stay", prepare_relayed, play_receive, false};
+    static struct mesh m;
+    open_mesh(&m, originators, BATMAN_PRESENT_STAYS);
+    time_row(&m, &stay);
+    same_cells(&m);
+    close_mesh(&m);
+}
+
 int main(void)
 {
     static const unsigned sizes[] = {1, 16, 64, 256};
     if (!compare(versions, VERSIONS, COMPARED))
         return EXIT_FAILURE;
     printf("\n%-28s %11s %9s %11s %6s %11s\n", "call", "originators", "proved ns", "(a) ns", "ratio", "(b) ns");
-    for (size_t i = 0; i < sizeof sizes / sizeof *sizes; i++)
+    for (size_t i = 0; i < sizeof sizes / sizeof *sizes; i++) {
         time_mesh(sizes[i]);
+        time_ties(sizes[i]);
+    }
     printf("\n(a) the same cells and the same check in C, (b) structs of its own and no check; c by clang, g by gcc, the faster of the two.\n");
     printf("The median of %d slices, in which the versions take turns.\n", SLICES);
     return EXIT_SUCCESS;

@@ -9,7 +9,7 @@ enum { OWN, BROADCAST, FIRST, SENT, LAST, INTERFACE };                          
 enum { LINK = 2, LINK_MOST = BATMAN_LINKS_MOST, NEIGHBOUR = 2, NEIGHBOUR_MOST = BATMAN_NEIGHBOURS_MOST };
 enum { ADDRESS, CURRENT, SEEN, LAST_TTL, LINKS, BEST, LINKS_FROM, RECORD = LINKS_FROM + LINK * LINK_MOST }; /* of a record, and its cells */
 enum {
-    VERSION_AT, WINDOW_AT, TIMEOUT_AT, PURGE_AT, CAPACITY_AT, USED_AT, TIME_AT, ROWS_AT, RECORDS_AT, INTERFACES_AT,
+    VERSION_AT, WINDOW_AT, TIMEOUT_AT, PURGE_AT, CAPACITY_AT, TIE_AT, USED_AT, TIME_AT, ROWS_AT, RECORDS_AT, INTERFACES_AT,
     NEIGHBOURS_AT = INTERFACES_AT + INTERFACE * BATMAN_INTERFACES, ALL_RECORDS_AT = NEIGHBOURS_AT + NEIGHBOUR * NEIGHBOUR_MOST
 };
 _Static_assert((int)ALL_RECORDS_AT == (int)BATMAN_TABLE_CELLS && (int)RECORD == (int)BATMAN_RECORD_CELLS, "the layout is the one of batman.h");
@@ -26,15 +26,16 @@ static bool zeros(const uint64_t *from, const uint64_t *to)
     return any == 0;
 }
 
-static bool settings_ok(uint64_t version, uint64_t window, uint64_t timeout, uint64_t purge, uint64_t capacity)
+static bool settings_ok(const uint64_t *c)
 {
-    return version <= 255 && window - 1 < 64 && timeout - 1 < 1000 && purge - 1 < UINT32_MAX && capacity - 1 < BATMAN_CAPACITY_MOST;
+    return c[VERSION_AT] <= 255 && c[WINDOW_AT] - 1 < 64 && c[TIMEOUT_AT] - 1 < 1000 && c[PURGE_AT] - 1 < UINT32_MAX &&
+           c[CAPACITY_AT] - 1 < BATMAN_CAPACITY_MOST && c[TIE_AT] <= BATMAN_PRESENT_STAYS;
 }
 
 static bool head_ok(const uint64_t *c, size_t count)
 {
-    return count >= ALL_RECORDS_AT && settings_ok(c[VERSION_AT], c[WINDOW_AT], c[TIMEOUT_AT], c[PURGE_AT], c[CAPACITY_AT]) &&
-           c[USED_AT] - 1 < BATMAN_INTERFACES && c[ROWS_AT] <= NEIGHBOUR_MOST && c[RECORDS_AT] <= c[CAPACITY_AT] && count == cells_needed(c[CAPACITY_AT]);
+    return count >= ALL_RECORDS_AT && settings_ok(c) && c[USED_AT] - 1 < BATMAN_INTERFACES && c[ROWS_AT] <= NEIGHBOUR_MOST &&
+           c[RECORDS_AT] <= c[CAPACITY_AT] && count == cells_needed(c[CAPACITY_AT]);
 }
 
 static bool interfaces_ok(const uint64_t *c)
@@ -192,7 +193,7 @@ static inline bool is_duplicate(const uint64_t *r, uint64_t window, uint64_t key
 /* The links as counting leaves them: at most nine, before it is known whether they fit. */
 struct links {
     uint64_t cell[LINK * (LINK_MOST + 1)];
-    size_t n;
+    size_t n, mine; /* how many, and the place of the one that the message came by */
 };
 
 static inline void add(struct links *l, uint64_t key, uint64_t marks)
@@ -212,6 +213,7 @@ static inline struct links moved(const uint64_t *r, uint64_t window, uint64_t d,
         uint64_t marks = d < window ? link[1] << d & most : 0;
         if (!met && link[0] >= key) {
             met = true;
+            l.mine = l.n;
             if (link[0] != key)
                 add(&l, key, mark);
             else
@@ -219,27 +221,28 @@ static inline struct links moved(const uint64_t *r, uint64_t window, uint64_t d,
         }
         add(&l, link[0], marks);
     }
-    if (!met)
+    if (!met) {
+        l.mine = l.n;
         add(&l, key, mark);
+    }
     return l;
 }
 
-static inline uint64_t chosen(const struct links *l, uint64_t key, uint64_t best)
+/* Which link is then best: this one, where every other's count is below its own, or level under newest wins. */
+static inline uint64_t chosen(const struct links *l, uint64_t tie, uint64_t key, uint64_t best)
 {
-    unsigned mine = 0, most = 0;
-    for (size_t i = 0; i < l->n; i++) {
-        unsigned count = ones(l->cell[LINK * i + 1]);
-        most = count > most ? count : most;
-        mine = l->cell[LINK * i] == key ? count : mine;
-    }
-    return mine == most ? key : best;
+    uint64_t count = ones(l->cell[LINK * l->mine + 1]);
+    for (size_t i = 0; i < l->n; i++)
+        if (i != l->mine && ones(l->cell[LINK * i + 1]) + tie > count)
+            return best;
+    return key;
 }
 
-static bool count_message(uint64_t *r, uint64_t window, const struct arrival *m)
+static bool count_message(uint64_t *r, uint64_t window, uint64_t tie, const struct arrival *m)
 {
     uint64_t next = (uint16_t)(r[CURRENT] - m->sequence) < window ? r[CURRENT] : m->sequence;
     struct links all = moved(r, window, (uint16_t)(next - r[CURRENT]), (uint16_t)(next - m->sequence), m->key), kept = {.n = 0};
-    uint64_t best = chosen(&all, m->key, r[BEST]);
+    uint64_t best = chosen(&all, tie, m->key, r[BEST]);
     for (size_t i = 0; i < all.n; i++)
         if (all.cell[LINK * i + 1] != 0 || all.cell[LINK * i] == best)
             add(&kept, all.cell[LINK * i], all.cell[LINK * i + 1]);
@@ -333,7 +336,7 @@ static struct batman_received others_message(uint64_t *c, const uint8_t *packet,
             return refusal((struct fault){10, 0});
         if (!held)
             make_record(c, at, m);
-        else if (!count_message(r, window, m))
+        else if (!count_message(r, window, c[TIE_AT], m))
             return refusal((struct fault){11, 0});
         held = true;
     }
@@ -373,14 +376,13 @@ static size_t size(uint64_t capacity) { return cells_needed(capacity) * sizeof(u
 
 static uint64_t make(void *table, size_t count, struct batman_settings s, struct batman_interfaces f)
 {
-    uint64_t *c = table;
-    if (!settings_ok(s.version, s.window, s.timeout, s.purge, s.capacity) || f.used - 1 >= BATMAN_INTERFACES || count != cells_needed(s.capacity))
+    uint64_t *c = table, head[] = {s.version, s.window, s.timeout, s.purge, s.capacity, s.tie, f.used};
+    if (!settings_ok(head) || f.used - 1 >= BATMAN_INTERFACES || count != cells_needed(s.capacity))
         return 12;
     for (uint64_t i = 0; i < f.used; i++)
         for (uint64_t j = 0; j < i; j++)
             if (f.row[i].own == f.row[j].own)
                 return 12;
-    uint64_t head[] = {s.version, s.window, s.timeout, s.purge, s.capacity, f.used};
     memset(c, 0, count * sizeof *c);
     memcpy(c, head, sizeof head);
     for (uint64_t i = 0; i < f.used; i++) {

@@ -81,7 +81,8 @@ static struct result play(const struct version *v, void *table, size_t count, co
 static struct history begin_history(void)
 {
     struct history h = {.nodes = seldom(2) ? 3 : 11, .originators = 1 + (unsigned)below(7)};
-    h.settings = (struct batman_settings){4, seldom(2) ? 64 : 1 + below(9), seldom(2) ? 1000 : 1 + below(5), 1 + below(3000), 1 + below(CAPACITY_MOST)};
+    h.settings = (struct batman_settings){4, seldom(2) ? 64 : 1 + below(9), seldom(2) ? 1000 : 1 + below(5), 1 + below(3000),
+                                          1 + below(CAPACITY_MOST), seldom(2) ? BATMAN_NEWEST_WINS : BATMAN_PRESENT_STAYS};
     h.interfaces.used = 1 + below(4);
     for (unsigned i = 0; i < 4; i++)
         h.interfaces.row[i] = (struct batman_interface){OWN_FROM + i, BROADCAST, (uint16_t)(65533 + below(5))};
@@ -170,6 +171,7 @@ static struct call draw_make(struct history *h)
     case 3: c.settings.purge = below(2) << 32; break;
     case 4: c.interfaces.used = 5 * below(2); break;
     case 5: c.interfaces.row[1].own = OWN_FROM; break;
+    case 6: c.settings.tie = seldom(2) ? BATMAN_PRESENT_STAYS + 1 : (uint64_t)1 << 32; break;
     }
     return c;
 }

@@ -113,11 +113,12 @@ static inline void move_window(struct originator *o, uint64_t window, uint16_t n
     o->current = number;
 }
 
-static inline bool is_highest(const struct originator *o, const struct link *mine)
+/* No other link has a higher count; under present stays none has the same either. */
+static inline bool becomes_best(const struct originator *o, uint64_t tie, const struct link *mine)
 {
-    unsigned count = ones(mine->marks);
+    unsigned count = ones(mine->marks), most = tie == BATMAN_NEWEST_WINS ? count : count - 1;
     for (const struct link *l = o->link; l < o->link + o->links; l++)
-        if (ones(l->marks) > count)
+        if (l != mine && ones(l->marks) > most)
             return false;
     return true;
 }
@@ -137,19 +138,19 @@ static inline void drop_empty(struct originator *o)
     o->best = (uint8_t)best;
 }
 
-static inline void count_on(struct originator *o, uint64_t window, const struct message *m)
+static inline void count_on(struct originator *o, const struct batman_settings *s, const struct message *m)
 {
-    bool moves = (uint16_t)(o->current - m->sequence) >= window;
+    bool moves = (uint16_t)(o->current - m->sequence) >= s->window;
     unsigned was = o->best;
     if (moves)
-        move_window(o, window, m->sequence);
+        move_window(o, s->window, m->sequence);
     struct link *l = link_of(o, m->sender, m->interface);
     if (l == NULL) {
         l = &o->link[o->links++];
         *l = (struct link){m->sender, m->interface, 0};
     }
     l->marks |= (uint64_t)1 << (uint16_t)(o->current - m->sequence);
-    if (is_highest(o, l))
+    if (becomes_best(o, s->tie, l))
         o->best = (uint8_t)(l - o->link);
     if (moves || o->link[was].marks == 0) /* only then may a link have lost its last mark, or best */
         drop_empty(o);
@@ -158,14 +159,14 @@ static inline void count_on(struct originator *o, uint64_t window, const struct 
 }
 
 /* A ninth link may take the place of one that is dropped, which only a trial tells. */
-static bool count_message(struct originator *o, uint64_t window, const struct message *m)
+static bool count_message(struct originator *o, const struct batman_settings *s, const struct message *m)
 {
     if (o->links < LINK_MOST || link_of(o, m->sender, m->interface) != NULL) {
-        count_on(o, window, m);
+        count_on(o, s, m);
         return true;
     }
     struct originator trial = *o;
-    count_on(&trial, window, m);
+    count_on(&trial, s, m);
     if (trial.links > LINK_MOST)
         return false;
     *o = trial;
@@ -239,7 +240,7 @@ static struct batman_received others_message(struct plain *p, const struct messa
             return refusal((struct fault){10, 0});
         if (o == NULL)
             o = first_message(p, m);
-        else if (!count_message(o, p->settings.window, m))
+        else if (!count_message(o, &p->settings, m))
             return refusal((struct fault){11, 0});
     }
     p->time = m->time;
@@ -291,7 +292,7 @@ static size_t size(uint64_t capacity)
 
 static bool allowed(const struct batman_settings *s, const struct batman_interfaces *f)
 {
-    if (s->version > 255 || s->window < 1 || s->window > 64 || s->timeout < 1 || s->timeout > 1000)
+    if (s->version > 255 || s->window < 1 || s->window > 64 || s->timeout < 1 || s->timeout > 1000 || s->tie > BATMAN_PRESENT_STAYS)
         return false;
     if (s->purge < 1 || s->purge > UINT32_MAX || s->capacity < 1 || s->capacity > ORIGINATOR_MOST || f->used < 1 || f->used > 4)
         return false;

@@ -12,6 +12,14 @@ pub const NEIGHBOURS_MOST: usize = 32;
 pub const LINKS_MOST: usize = 8;
 pub const CAPACITY_MOST: u64 = 256;
 
+/// The tie setting: where the receiving link's count equals the highest other one (RULES 6.5),
+/// the receiving link becomes best.
+pub const NEWEST_WINS: u64 = 0;
+/// The best link stays.
+pub const PRESENT_STAYS: u64 = 1;
+pub const TIE_MOST: u64 = PRESENT_STAYS;
+pub const TIE_DEFAULT: u64 = PRESENT_STAYS;
+
 /// One of the four interface rows given to make.
 #[derive(Clone, Copy, Debug, Default, PartialEq)]
 pub struct InterfaceRow {
@@ -28,6 +36,7 @@ pub struct Settings {
     pub timeout: u64,
     pub purge: u64,
     pub capacity: u64,
+    pub tie: u64,
     pub used: u64,
     pub rows: [InterfaceRow; INTERFACES_MOST],
 }
@@ -40,6 +49,7 @@ impl Settings {
             && (1..=1000).contains(&self.timeout)
             && (1..=u64::from(u32::MAX)).contains(&self.purge)
             && (1..=CAPACITY_MOST).contains(&self.capacity)
+            && self.tie <= TIE_MOST
             && (1..=INTERFACES_MOST as u64).contains(&self.used)
             && own_addresses_differ(self.rows_in_use())
     }
@@ -92,17 +102,12 @@ pub struct ReceiveAnswer {
     pub other_flags: u8,
     pub best: BestAnswer,
     pub octets: Vec<u8>,
+    /// Whether the message was counted and its link then tied with the highest other one;
+    /// this is not printed.
+    pub tied: bool,
 }
 
 type Judged = Result<ReceiveAnswer, Refusal>;
-
-/// A verdict with nothing passed on; the best link comes to it when the call ends.
-fn verdict(verdict: u64) -> Judged {
-    Ok(ReceiveAnswer {
-        verdict,
-        ..ReceiveAnswer::default()
-    })
-}
 
 /// What an own packet answers where it is not refused.
 #[derive(Clone, Debug, PartialEq)]
@@ -192,18 +197,23 @@ impl Book {
 
     /// The words of a held record.
     pub fn words_of(&self, originator: u32) -> Option<Words> {
-        words::words(self.list_of(originator), self.settings.window)
+        let Settings { window, tie, .. } = self.settings;
+        words::words(self.list_of(originator), window, tie)
     }
 
     /// The best question, refusal 1 aside.
     pub fn best(&self, originator: u32) -> BestAnswer {
-        self.words_of(originator)
-            .map_or_else(BestAnswer::default, |words| BestAnswer {
-                neighbour: words.best.neighbour,
-                interface: u64::from(words.best.interface),
-                count: words.count(words.best),
-                window: self.settings.window,
-            })
+        self.best_by(self.words_of(originator).as_ref())
+    }
+
+    /// The same, by the words of the originator's record.
+    fn best_by(&self, words: Option<&Words>) -> BestAnswer {
+        words.map_or_else(BestAnswer::default, |words| BestAnswer {
+            neighbour: words.best.neighbour,
+            interface: u64::from(words.best.interface),
+            count: words.count(words.best),
+            window: self.settings.window,
+        })
     }
 
     /// The list call with this many rows lent, refusal 1 aside.
@@ -312,27 +322,35 @@ impl Book {
             neighbour: call.sender,
             interface: call.interface as u8,
         };
-        let mut answer = self.judge(call, &header, link)?;
+        let answer = self.judge(call, &header, link)?;
         self.time = call.time;
-        answer.best = self.best(header.originator);
         Ok(answer)
     }
 
     /// The five steps of receiving: the verdict with what is passed on, or refusal 9, 10 or 11.
     fn judge(&mut self, call: &Receive, header: &Header, link: Link) -> Judged {
         if self.settings.is_own(call.sender) {
-            return verdict(20);
+            return self.ended(20, header);
         }
         if self.settings.is_broadcast(call.sender) {
-            return verdict(21);
+            return self.ended(21, header);
         }
         if self.settings.is_own(header.originator) {
             return self.echo(header, link);
         }
         if header.flags & UNIDIRECTIONAL != 0 {
-            return verdict(24);
+            return self.ended(24, header);
         }
         self.count_and_pass_on(call, header, link)
+    }
+
+    /// A verdict before the two questions: the best link comes with it, and nothing else.
+    fn ended(&self, verdict: u64, header: &Header) -> Judged {
+        Ok(ReceiveAnswer {
+            verdict,
+            best: self.best(header.originator),
+            ..ReceiveAnswer::default()
+        })
     }
 
     /// Step 3: an own message comes back.
@@ -342,42 +360,48 @@ impl Book {
             && header.originator == self.settings.rows[interface].own
             && self.last[interface] == Some(header.number);
         if !accepted {
-            return verdict(23);
+            return self.ended(23, header);
         }
         if !self.has_row(link) && self.rows().count() >= NEIGHBOURS_MOST {
             return Err(refusal(9));
         }
         self.echoes.insert(link, 0);
-        verdict(22)
+        self.ended(22, header)
     }
 
     /// Step 5: the two questions, counted and passed on.
     fn count_and_pass_on(&mut self, call: &Receive, header: &Header, link: Link) -> Judged {
-        let window = self.settings.window;
         let list = self.list_of(header.originator);
         let bidirectional = self.has_row(link);
-        let duplicate = words::duplicate(list, window, link, header.number);
+        let duplicate = words::duplicate(list, self.settings.window, link, header.number);
         let repeats_ttl = list.last().is_some_and(|last| last.ttl == header.ttl);
-        if bidirectional && !duplicate {
-            self.count(call.time, header, link)?;
-        }
-        let best = words::best(self.list_of(header.originator), window) == Some(link);
+        let counted = bidirectional && !duplicate;
+        let words = if counted {
+            Some(self.count(call.time, header, link)?)
+        } else {
+            self.words_of(header.originator)
+        };
+        let mut answer = ReceiveAnswer {
+            verdict: 25,
+            best: self.best_by(words.as_ref()),
+            tied: counted && words.as_ref().is_some_and(|words| words.tied(link)),
+            ..ReceiveAnswer::default()
+        };
+        let best = words.is_some_and(|words| words.best == link);
         let relay = bidirectional && best && (!duplicate || repeats_ttl);
         let direct = call.sender == header.originator;
         let lowest = if cfg!(wrong = "ttl") { 1 } else { 2 };
-        if header.ttl < lowest || !(direct || relay) {
-            return verdict(25);
+        if header.ttl >= lowest && (direct || relay) {
+            answer.verdict = 26;
+            answer.other_flags = header.flags & !(UNIDIRECTIONAL | DIRECT);
+            answer.octets = pass_on(&call.packet, header, direct, bidirectional);
         }
-        Ok(ReceiveAnswer {
-            verdict: 26,
-            other_flags: header.flags & !(UNIDIRECTIONAL | DIRECT),
-            octets: pass_on(&call.packet, header, direct, bidirectional),
-            ..ReceiveAnswer::default()
-        })
+        Ok(answer)
     }
 
-    /// Adds one message to its originator's list, or refuses by 10 or 11.
-    fn count(&mut self, time: u64, header: &Header, link: Link) -> Result<(), Refusal> {
+    /// Adds one message to its originator's list and gives the list's words, or refuses by
+    /// 10 or 11.
+    fn count(&mut self, time: u64, header: &Header, link: Link) -> Result<Words, Refusal> {
         let full = self.lists.len() as u64 >= self.settings.capacity;
         if full && !self.lists.contains_key(&header.originator) {
             return Err(refusal(10));
@@ -388,15 +412,15 @@ impl Book {
             time,
             ttl: header.ttl,
         };
-        let window = self.settings.window;
+        let Settings { window, tie, .. } = self.settings;
         let list = self.lists.entry(header.originator).or_default();
         list.push(message);
-        // A ninth link can only come where more than 8 messages are in the list.
-        if list.len() > LINKS_MOST && words::held(list, window).len() > LINKS_MOST {
+        let words = words::words(list, window, tie).expect("the list has a message");
+        if words.held.len() > LINKS_MOST {
             list.pop();
             return Err(refusal(11));
         }
-        Ok(())
+        Ok(words)
     }
 }
 

@@ -1,8 +1,9 @@
 //! Where a table's words lie in its cells, by docs/LAYOUT.md: every place is named here and
-//! nowhere else. The book as cells, and whether cells are a well-formed table, by document
-//! 01's paragraph of that name.
+//! nowhere else. The book as cells, and whether cells are a well-formed table (RULES 5.3).
 
-use crate::book::{Book, CAPACITY_MOST, INTERFACES_MOST, LINKS_MOST, NEIGHBOURS_MOST};
+use crate::book::{
+    Book, Settings, CAPACITY_MOST, INTERFACES_MOST, LINKS_MOST, NEIGHBOURS_MOST, TIE_MOST,
+};
 use crate::words::{self, Counted, Link};
 
 /// The settings and numbers at the start of a table, a cell each.
@@ -12,11 +13,12 @@ pub mod head {
     pub const TIMEOUT: usize = 2;
     pub const PURGE: usize = 3;
     pub const CAPACITY: usize = 4;
-    pub const USED: usize = 5;
-    pub const TIME: usize = 6;
-    pub const NEIGHBOURS_HELD: usize = 7;
-    pub const ORIGINATORS_HELD: usize = 8;
-    pub const CELLS: usize = 9;
+    pub const TIE: usize = 5;
+    pub const USED: usize = 6;
+    pub const TIME: usize = 7;
+    pub const NEIGHBOURS_HELD: usize = 8;
+    pub const ORIGINATORS_HELD: usize = 9;
+    pub const CELLS: usize = 10;
 }
 
 /// The cells of an interface row.
@@ -108,6 +110,7 @@ pub fn encode(book: &Book, cells: &mut [u64]) {
     cells[head::TIMEOUT] = settings.timeout;
     cells[head::PURGE] = settings.purge;
     cells[head::CAPACITY] = settings.capacity;
+    cells[head::TIE] = settings.tie;
     cells[head::USED] = settings.used;
     cells[head::TIME] = book.time;
     cells[head::NEIGHBOURS_HELD] = book.rows().count() as u64;
@@ -127,7 +130,7 @@ pub fn encode(book: &Book, cells: &mut [u64]) {
     }
     let records = cells[RECORDS..].chunks_exact_mut(record::CELLS);
     for ((originator, list), record) in book.lists.iter().zip(records) {
-        encode_record(*originator, list, settings.window, record);
+        encode_record(*originator, list, settings, record);
     }
 }
 
@@ -137,9 +140,10 @@ fn recorded(book: &Book, link: Link, since: u64) -> u64 {
     u64::from(last.wrapping_sub(since as u16))
 }
 
-fn encode_record(originator: u32, list: &[Counted], window: u64, record: &mut [u64]) {
+fn encode_record(originator: u32, list: &[Counted], settings: &Settings, record: &mut [u64]) {
+    let window = settings.window;
     let (Some(words), Some(current), Some(last)) = (
-        words::words(list, window),
+        words::words(list, window, settings.tie),
         words::current(list, window),
         list.last(),
     ) else {
@@ -182,6 +186,7 @@ fn settings_well_formed(cells: &[u64]) -> bool {
         && (1..=64).contains(&cells[head::WINDOW])
         && (1..=1000).contains(&cells[head::TIMEOUT])
         && (1..ADDRESS_END).contains(&cells[head::PURGE])
+        && cells[head::TIE] <= TIE_MOST
         && (1..=INTERFACES_MOST as u64).contains(&cells[head::USED])
         && cells[head::NEIGHBOURS_HELD] <= NEIGHBOURS_MOST as u64
         && cells[head::ORIGINATORS_HELD] <= cells[head::CAPACITY]

@@ -151,6 +151,7 @@ impl Generator<'_> {
         let many = match kind {
             Kind::Full => 300,
             Kind::Links | Kind::Runs => 150 + self.random.below(250),
+            Kind::Ties => 40 + self.random.below(80),
             _ => 60 + self.random.below(300),
         };
         if kind != Kind::General {
@@ -193,8 +194,7 @@ impl Generator<'_> {
     fn fill(&mut self) {
         let mut left = self.stage.originators.clone();
         while !left.is_empty() && !self.done() {
-            let place = self.random.below(left.len() as u64) as usize;
-            let originator = left.swap_remove(place);
+            let originator = self.random.take(&mut left);
             match self.row() {
                 Some(link) => self.message(link, originator),
                 None => self.any_echo(),
@@ -208,7 +208,7 @@ impl Generator<'_> {
             Kind::Timeout => (200, 200),
             Kind::Neighbours => (20, 300),
             Kind::Links => (20, 90),
-            Kind::Runs => (10, 30),
+            Kind::Runs | Kind::Ties => (10, 30),
             Kind::Full => (10, 30),
             _ => (80, 130),
         };
@@ -227,8 +227,16 @@ impl Generator<'_> {
                 _ => self.message_by_row(),
             };
         }
+        if self.stage.kind == Kind::Ties && self.random.chance(750) {
+            return match self.random.below(20) {
+                0 => self.leave_best_behind(),
+                1..10 => self.draw_level(),
+                _ => self.message_by_all(),
+            };
+        }
         match self.random.below(1000) {
-            0..430 => self.message_by_row(),
+            0..380 => self.message_by_row(),
+            380..430 => self.draw_level(),
             430..520 => self.message_by_any(),
             520..590 => self.repeat(),
             590..640 => self.wild_receive(),

@@ -2,6 +2,8 @@
 //! input and prints the same lines, by a plain book that keeps lists and no marks.
 //!
 //! `peer` plays, `peer numbered` plays with the script's line number before each line,
+//! `peer ties FILE` plays and writes to a file, for each tie setting, how many counted messages
+//! left their link tied with the highest other one,
 //! `peer generate SEED CALLS` and `peer outside FILE..` write scripts.
 
 mod book;
@@ -15,17 +17,20 @@ mod script;
 mod tests;
 mod words;
 
+use play::Player;
 use std::io::{self, BufReader, BufWriter, Write};
 use std::process::ExitCode;
 
-const USAGE: &str = "usage: peer [numbered] | peer generate SEED CALLS | peer outside FILE..";
+const USAGE: &str =
+    "usage: peer [numbered | ties FILE] | peer generate SEED CALLS | peer outside FILE..";
 
 fn main() -> ExitCode {
     let arguments: Vec<String> = std::env::args().skip(1).collect();
     let words: Vec<&str> = arguments.iter().map(String::as_str).collect();
     let done = match words.as_slice() {
-        [] => play(false),
-        ["numbered"] => play(true),
+        [] => play(false, None),
+        ["numbered"] => play(true, None),
+        ["ties", file] => play(false, Some(file)),
         ["generate", seed, calls] => generate(seed, calls),
         ["outside", files @ ..] if !files.is_empty() => outside(files),
         _ => return usage(),
@@ -48,9 +53,15 @@ fn writer() -> BufWriter<io::StdoutLock<'static>> {
     BufWriter::with_capacity(1 << 16, io::stdout().lock())
 }
 
-fn play(numbered: bool) -> io::Result<ExitCode> {
+fn play(numbered: bool, ties: Option<&str>) -> io::Result<ExitCode> {
+    let mut player = Player::new();
     let mut input = BufReader::with_capacity(1 << 16, io::stdin().lock());
-    match play::play(&mut input, &mut writer(), numbered)? {
+    let ending = play::play(&mut player, &mut input, &mut writer(), numbered)?;
+    if let Some(file) = ties {
+        let [newest, stays] = player.ties;
+        std::fs::write(file, format!("newest {newest}\nstays {stays}\n"))?;
+    }
+    match ending {
         play::Ending::Whole => Ok(ExitCode::SUCCESS),
         play::Ending::Outside(line) => {
             eprintln!("peer: line {line}: the cells are a table without a history");

@@ -1,6 +1,6 @@
 //! Plays a script: the book beside the program's buffer of cells, and the lines it prints.
 
-use crate::book::{self, BestAnswer, Book, Own, Receive, Refusal};
+use crate::book::{self, BestAnswer, Book, Own, Receive, Refusal, TIE_MOST};
 use crate::cells;
 use crate::packet;
 use crate::script::{self, Call, Line, BUFFER_CELLS};
@@ -22,6 +22,9 @@ pub enum Lent {
 pub struct Player {
     pub book: Option<Book>,
     pub lent: usize,
+    /// For each tie setting, how many counted messages left their link tied with the highest
+    /// other one.
+    pub ties: [u64; TIE_MOST as usize + 1],
     buffer: Vec<u64>,
     state: Lent,
     /// The book has changed since the buffer was written.
@@ -37,6 +40,7 @@ impl Player {
         Player {
             book: None,
             lent: BUFFER_CELLS,
+            ties: Default::default(),
             buffer: vec![0; BUFFER_CELLS],
             state: Lent::Unknown,
             stale: false,
@@ -163,6 +167,9 @@ impl Player {
             }
             Ok(answer) => {
                 self.changed();
+                if let (true, Some(book)) = (answer.tied, &self.book) {
+                    self.ties[book.settings.tie as usize] += 1;
+                }
                 let [neighbour, interface, count, window] = best_fields(&answer.best);
                 let flags = u64::from(answer.other_flags);
                 let fields = [
@@ -329,8 +336,12 @@ pub enum Ending {
 
 /// Plays a whole script. `numbered` puts the script's line number before each printed line,
 /// so that the cause of a difference can be found.
-pub fn play(input: &mut dyn BufRead, output: &mut dyn Write, numbered: bool) -> io::Result<Ending> {
-    let mut player = Player::new();
+pub fn play(
+    player: &mut Player,
+    input: &mut dyn BufRead,
+    output: &mut dyn Write,
+    numbered: bool,
+) -> io::Result<Ending> {
     let mut line = Vec::new();
     let mut out = Vec::new();
     let mut number = 0;
@@ -345,7 +356,7 @@ pub fn play(input: &mut dyn BufRead, output: &mut dyn Write, numbered: bool) -> 
             line.pop();
         }
         out.clear();
-        let played = play_line(&mut player, number, &line, &mut out);
+        let played = play_line(player, number, &line, &mut out);
         if numbered {
             for printed in out.split_inclusive(|octet| *octet == b'\n') {
                 write!(output, "{number} ")?;

@@ -1,6 +1,6 @@
 //! Reads one line of a script of calls, in the form that the replay program takes.
 
-use crate::book::{InterfaceRow, Own, Receive, Settings, INTERFACES_MOST};
+use crate::book::{InterfaceRow, Own, Receive, Settings, INTERFACES_MOST, TIE_DEFAULT};
 
 pub const BUFFER_CELLS: usize = 66_560;
 const LINE_MOST: usize = 8192;
@@ -105,6 +105,7 @@ fn read_settings(words: &mut Words) -> Option<Settings> {
         timeout: words.number()?,
         purge: words.number()?,
         capacity: words.number()?,
+        tie: TIE_DEFAULT,
         used: words.number()?,
         rows: [InterfaceRow::default(); INTERFACES_MOST],
     };
@@ -112,6 +113,10 @@ fn read_settings(words: &mut Words) -> Option<Settings> {
         row.own = words.address()?;
         row.broadcast = words.address()?;
         row.first = words.at_most(65_535)? as u16;
+    }
+    // The tie stands last and may be left out.
+    if let Some(word) = words.next() {
+        settings.tie = decimal(word)?;
     }
     Some(settings)
 }

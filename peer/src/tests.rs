@@ -1,6 +1,6 @@
 //! The examples of docs/RULES.md (section 11), its errors that come easily (12), and self-checks of the peer.
 
-use crate::book::Book;
+use crate::book::{Book, NEWEST_WINS, PRESENT_STAYS, TIE_DEFAULT};
 use crate::cells::{
     self, cells_needed, head, interface, interface_at, link, link_at, neighbour, neighbour_at,
     record, record_at,
@@ -10,12 +10,18 @@ use crate::packet;
 use crate::play::{self, Ending, Lent, Player};
 use crate::script::{self, Line, BUFFER_CELLS};
 use crate::words::{self, Counted, Link};
+use std::io;
 
 const A: Link = by(10);
 const B: Link = by(11);
 const C: Link = by(12);
 const FAR: u32 = 99;
 const CAPACITY: u64 = 8;
+const TIES: [u64; 2] = [NEWEST_WINS, PRESENT_STAYS];
+/// P7: A is best with 3, 4, 5, C has 9, 10; then 12 by B.
+const P7: [(Link, u16); 6] = [(A, 3), (A, 4), (A, 5), (C, 9), (C, 10), (B, 12)];
+/// P8: A is best with 9, 10, C has 9; then 10 by C.
+const P8: [(Link, u16); 4] = [(C, 9), (A, 9), (A, 10), (C, 10)];
 
 const fn by(neighbour: u32) -> Link {
     Link {
@@ -46,14 +52,24 @@ fn marked(list: &[Counted], window: u64, link: Link) -> Vec<u16> {
         .collect()
 }
 
-/// Plays lines and gives what was printed.
-fn played(lines: &[String]) -> Vec<String> {
+/// The best link after these messages, with W = 8.
+fn best(messages: &[(Link, u16)], tie: u64) -> Link {
+    words::words(&list(messages), 8, tie).unwrap().best
+}
+
+/// Plays lines as a script: how it ended, and what it printed.
+fn play_script(lines: &[String]) -> (Ending, Vec<u8>) {
     let mut output = Vec::new();
     let script = lines.join("\n");
-    match play::play(&mut script.as_bytes(), &mut output, false) {
-        Ok(Ending::Whole) => (),
-        _ => panic!("a script that ends whole"),
-    }
+    let mut input = script.as_bytes();
+    let ending = play::play(&mut Player::new(), &mut input, &mut output, false);
+    (ending.unwrap(), output)
+}
+
+/// Plays lines and gives what was printed.
+fn played(lines: &[String]) -> Vec<String> {
+    let (ending, output) = play_script(lines);
+    assert!(matches!(ending, Ending::Whole));
     let text = String::from_utf8(output).expect("plain text");
     text.lines().map(str::to_string).collect()
 }
@@ -90,6 +106,13 @@ fn with_rows() -> Vec<String> {
     lines
 }
 
+/// The same, with this behind the make line: a tie, or nothing.
+fn with_tie(tie: &str) -> Vec<String> {
+    let mut lines = with_rows();
+    lines[1] += tie;
+    lines
+}
+
 fn feed(lines: &mut Vec<String>, messages: &[(Link, u16)]) {
     for (link, number) in messages {
         lines.push(receive(link.neighbour, 0, 50, *number, FAR));
@@ -113,7 +136,7 @@ fn p2_window_over_the_wrap() {
 fn p3_a_move_forgets() {
     let after = list(&[(A, 10), (A, 7), (A, 3), (A, 12)]);
     assert_eq!(marked(&after, 8, A), [7, 10, 12]);
-    assert_eq!(words::words(&after, 8).unwrap().count(A), 3);
+    assert_eq!(words::words(&after, 8, TIE_DEFAULT).unwrap().count(A), 3);
 }
 
 #[test]
@@ -137,14 +160,15 @@ fn p6_window_of_one() {
 
 #[test]
 fn p7_best_is_not_the_maximum() {
-    let messages = [(A, 3), (A, 4), (A, 5), (C, 9), (C, 10), (B, 12)];
-    let after = list(&messages);
-    let words = words::words(&after, 8).unwrap();
-    assert_eq!(words.best, A);
-    assert_eq!(words.held, [(A, 1), (B, 1), (C, 2)]);
+    let after = list(&P7);
     assert_eq!(marked(&after, 8, A), [5]);
+    for tie in TIES {
+        let words = words::words(&after, 8, tie).unwrap();
+        assert_eq!(words.best, A);
+        assert_eq!(words.held, [(A, 1), (B, 1), (C, 2)]);
+    }
     let mut lines = with_rows();
-    feed(&mut lines, &messages);
+    feed(&mut lines, &P7);
     lines.push(format!("list {FAR} 3"));
     let printed = played(&lines);
     let rows = [
@@ -157,11 +181,73 @@ fn p7_best_is_not_the_maximum() {
 }
 
 #[test]
-fn p8_a_tie_goes_to_the_receiving_link() {
-    let before = list(&[(C, 9), (A, 9), (A, 10)]);
-    assert_eq!(words::best(&before, 8), Some(A));
-    let after = list(&[(C, 9), (A, 9), (A, 10), (C, 10)]);
-    assert_eq!(words::best(&after, 8), Some(C));
+fn p8_newest_wins() {
+    assert_eq!(best(&P8[..3], NEWEST_WINS), A);
+    assert_eq!(best(&P8, NEWEST_WINS), C);
+}
+
+#[test]
+fn p8_present_link_stays() {
+    assert_eq!(best(&P8[..3], PRESENT_STAYS), A);
+    assert_eq!(best(&P8, PRESENT_STAYS), A);
+}
+
+#[test]
+fn the_present_link_gives_way_to_one_above_it() {
+    let above = [P8.as_slice(), &[(C, 11)]].concat();
+    assert_eq!(best(&above, PRESENT_STAYS), C);
+}
+
+#[test]
+fn the_present_link_stays_below_two_others_that_tie() {
+    // B and C have two marks, A, which is best, has one.
+    let tied = [P7.as_slice(), &[(B, 11)]].concat();
+    assert_eq!(best(&tied, PRESENT_STAYS), A);
+    assert_eq!(best(&tied, NEWEST_WINS), B);
+}
+
+#[test]
+fn make_takes_the_tie_last_and_by_itself_the_present_link_stays() {
+    for (tie, best) in [("", A), (" 0", C), (" 1", A)] {
+        let mut lines = with_tie(tie);
+        feed(&mut lines, &P8);
+        lines.push(format!("best {FAR}"));
+        let answer = format!("best 0 {} 0 2 8", best.neighbour);
+        assert_eq!(last(&lines), answer, "tie{tie}");
+    }
+}
+
+#[test]
+fn an_unknown_tie_is_refused() {
+    for tie in [" 2", " 3", " 18446744073709551615"] {
+        assert_eq!(last(&with_tie(tie)[..2]), "make 12", "tie{tie}");
+    }
+}
+
+#[test]
+fn a_tie_decides_what_is_passed_on() {
+    for (tie, verdict) in [(" 0", "receive 26"), (" 1", "receive 25")] {
+        let mut lines = with_tie(tie);
+        feed(&mut lines, &P8);
+        assert!(last(&lines).starts_with(verdict), "tie{tie}");
+    }
+}
+
+#[test]
+fn ties_are_counted_under_their_setting() {
+    let mut player = Player::new();
+    // 9 by A and 10 by C tie; 10 by C once more is not counted.
+    let mut lines = with_tie(" 0");
+    feed(&mut lines, &P8);
+    feed(&mut lines, &[(C, 10)]);
+    follow(&mut player, &lines);
+    assert_eq!(player.ties, [2, 0]);
+    // 9 by A ties; 10 by B leaves B below the others.
+    let mut lines = with_tie(" 1");
+    feed(&mut lines, &P8[..3]);
+    feed(&mut lines, &[(B, 10)]);
+    follow(&mut player, &lines);
+    assert_eq!(player.ties, [2, 1]);
 }
 
 #[test]
@@ -241,8 +327,8 @@ fn ttl_two_leaves_as_one_and_less_stays() {
 
 #[test]
 fn error_best_as_the_maximum() {
-    let counts = list(&[(A, 3), (A, 4), (A, 5), (C, 9), (C, 10), (B, 12)]);
-    assert_ne!(words::best(&counts, 8), Some(C));
+    assert_ne!(best(&P7, NEWEST_WINS), C);
+    assert_ne!(best(&P7, PRESENT_STAYS), C);
 }
 
 #[test]
@@ -370,17 +456,68 @@ fn lines_that_cant_be_read() {
     assert_eq!(script::read(&[b'#'; 8192]), Line::Nothing);
 }
 
+#[test]
+fn a_make_line_has_18_numbers_or_a_tie_behind_them() {
+    let make = table(8, 32, 7).remove(1);
+    for behind in ["", " ", " 0", " 18446744073709551615"] {
+        let line = make.clone() + behind;
+        let read = script::read(line.as_bytes());
+        assert!(matches!(read, Line::Call(_)), "{line}");
+    }
+    for behind in [" x", " -", " 18446744073709551616", " 1 1", " 1 x"] {
+        let line = make.clone() + behind;
+        assert_eq!(script::read(line.as_bytes()), Line::Unreadable, "{line}");
+    }
+    let (shorter, _) = make.rsplit_once(' ').unwrap();
+    assert_eq!(script::read(shorter.as_bytes()), Line::Unreadable);
+}
+
+/// Plays lines that print what they may.
+fn follow(player: &mut Player, lines: &[String]) {
+    for line in lines {
+        play::play_line(player, 0, line.as_bytes(), &mut Vec::new()).unwrap();
+    }
+}
+
+/// The cells after these lines, which make a table.
+fn cells_after(lines: &[String]) -> Vec<u64> {
+    let mut player = Player::new();
+    follow(&mut player, lines);
+    assert_eq!(player.state(), Lent::Book);
+    player.cells().to_vec()
+}
+
 /// A table with two neighbour rows of three and a record with two links.
 fn example_cells() -> Vec<u64> {
-    let mut player = Player::new();
     let mut lines = with_rows();
     feed(&mut lines, &[(A, 300), (B, 300), (A, 301)]);
     lines.push(receive(11, 0, 50, 300, 200));
-    for line in lines {
-        play::play_line(&mut player, 0, line.as_bytes(), &mut Vec::new()).unwrap();
+    cells_after(&lines)
+}
+
+#[test]
+fn the_places_of_the_layout() {
+    assert_eq!(interface_at(0), 10);
+    assert_eq!(neighbour_at(0), 30);
+    assert_eq!(record_at(0), 94);
+    assert_eq!(cells_needed(64), 1502);
+}
+
+#[test]
+fn the_tie_lies_between_the_capacity_and_the_interfaces_in_use() {
+    for (tie, value) in [(" 0", 0), (" 1", 1), ("", 1)] {
+        let cells = cells_after(&with_tie(tie));
+        assert_eq!(cells[4..=6], [CAPACITY, value, 1], "tie{tie}");
     }
-    assert_eq!(player.state(), Lent::Book);
-    player.cells().to_vec()
+}
+
+#[test]
+fn a_table_of_either_tie_is_well_formed() {
+    let mut cells = example_cells();
+    for tie in TIES {
+        cells[head::TIE] = tie;
+        assert!(cells::well_formed(&cells));
+    }
 }
 
 #[test]
@@ -406,6 +543,8 @@ fn one_cell_breaks_a_table() {
         (head::PURGE, 1 << 32),
         (head::CAPACITY, CAPACITY - 1),
         (head::CAPACITY, CAPACITY + 1),
+        (head::TIE, 2),
+        (head::TIE, u64::MAX),
         (head::USED, 0),
         (head::USED, 2 + 3),
         (head::NEIGHBOURS_HELD, 2),
@@ -485,11 +624,12 @@ fn cells_may_break_and_be_mended() {
 
 #[test]
 fn a_table_without_a_history_ends_the_play() {
-    let mut lines = with_rows();
-    lines.extend([format!("poke {} 9", head::TIME), "best 1".to_string()]);
-    let script = lines.join("\n");
-    let ending = play::play(&mut script.as_bytes(), &mut Vec::new(), false);
-    assert!(matches!(ending, Ok(Ending::Outside(8))));
+    for (index, value) in [(head::TIME, 9), (head::TIE, NEWEST_WINS)] {
+        let mut lines = with_rows();
+        lines.extend([format!("poke {index} {value}"), "best 1".to_string()]);
+        let (ending, _) = play_script(&lines);
+        assert!(matches!(ending, Ending::Outside(8)));
+    }
 }
 
 #[test]
@@ -523,6 +663,53 @@ fn generated_scripts_play_to_their_end() {
             }
         }
     }
+}
+
+/// The best link as each message settles it: its own link, or the one before stays.
+fn best_step_by_step(list: &[Counted], window: u64, tie: u64) -> Option<Link> {
+    let mut best = None;
+    for place in 0..list.len() {
+        let link = list[place].link;
+        let words = words::words(&list[..=place], window, tie).unwrap();
+        let own = words.count(link);
+        let mut others = words.held.iter().filter(|(other, _)| *other != link);
+        let becomes_best = match tie {
+            NEWEST_WINS => others.all(|(_, count)| *count <= own),
+            _ => others.all(|(_, count)| *count < own),
+        };
+        if becomes_best {
+            best = Some(link);
+        }
+    }
+    best
+}
+
+#[test]
+fn best_by_the_list_is_best_step_by_step() {
+    let mut script = Vec::new();
+    generate(1, 20_000, &mut script).unwrap();
+    let mut player = Player::new();
+    for (place, line) in script.split(|octet| *octet == b'\n').enumerate() {
+        play::play_line(&mut player, 0, line, &mut Vec::new()).unwrap();
+        let Some(book) = player.book.as_ref().filter(|_| place % 64 == 0) else {
+            continue;
+        };
+        let (window, tie) = (book.settings.window, book.settings.tie);
+        for list in book.lists.values() {
+            let best = words::words(list, window, tie).map(|words| words.best);
+            assert_eq!(best, best_step_by_step(list, window, tie));
+        }
+    }
+}
+
+#[test]
+fn generated_scripts_tie_under_both_settings() {
+    let mut script = Vec::new();
+    generate(1, 20_000, &mut script).unwrap();
+    let mut player = Player::new();
+    let ending = play::play(&mut player, &mut script.as_slice(), &mut io::sink(), false);
+    assert!(matches!(ending, Ok(Ending::Whole)));
+    assert!(player.ties.iter().all(|ties| *ties > 100));
 }
 
 #[test]

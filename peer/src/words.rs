@@ -1,6 +1,9 @@
 //! The book's words for one originator, each computed from its list of counted messages:
 //! current, marks, counts, best and held links, as demand 3 says them.
 
+use crate::book::{NEWEST_WINS, PRESENT_STAYS};
+use std::cmp::Ordering;
+
 /// A link: rising by neighbour address, then interface.
 #[derive(Clone, Copy, Debug, PartialEq, Eq, PartialOrd, Ord)]
 pub struct Link {
@@ -29,6 +32,16 @@ impl Words {
     pub fn count(&self, link: Link) -> u64 {
         count_in(&self.held, link)
     }
+
+    /// The highest count of the links but this one, 0 where there is no other.
+    pub fn highest_other(&self, link: Link) -> u64 {
+        highest_other_in(&self.held, link)
+    }
+
+    /// Whether no other link stands higher than this one, and one stands as high.
+    pub fn tied(&self, link: Link) -> bool {
+        standing(&self.held, link) == Ordering::Equal
+    }
 }
 
 fn count_in(counts: &[(Link, u64)], link: Link) -> u64 {
@@ -36,6 +49,20 @@ fn count_in(counts: &[(Link, u64)], link: Link) -> u64 {
         .iter()
         .find(|(other, _)| *other == link)
         .map_or(0, |(_, count)| *count)
+}
+
+fn highest_other_in(counts: &[(Link, u64)], link: Link) -> u64 {
+    counts
+        .iter()
+        .filter(|(other, _)| *other != link)
+        .map(|(_, count)| *count)
+        .max()
+        .unwrap_or(0)
+}
+
+/// How a link's count stands to the highest of the others (RULES 6.5).
+fn standing(counts: &[(Link, u64)], link: Link) -> Ordering {
+    count_in(counts, link).cmp(&highest_other_in(counts, link))
 }
 
 /// Whether a number lies inside the window of a current number.
@@ -115,23 +142,41 @@ pub fn duplicate(list: &[Counted], window: u64, link: Link, number: u16) -> bool
     }
 }
 
-/// The best link: that of the latest message after whose count no other link stood higher.
-pub fn best(list: &[Counted], window: u64) -> Option<Link> {
-    best_by(list, &moves(list, window), window)
-}
-
-fn best_by(list: &[Counted], moves: &[usize], window: u64) -> Option<Link> {
+/// The best link: that of the latest message after whose count no other link stood higher,
+/// or, where the present link stays, as high.
+fn best_by(list: &[Counted], moves: &[usize], window: u64, tie: u64) -> Option<Link> {
     if cfg!(wrong = "best") {
         return highest(&counts_by(list, moves, window));
     }
-    let none_higher = |place: &usize| {
+    if cfg!(wrong = "tie") && tie == PRESENT_STAYS {
+        return above_present(list, moves, window);
+    }
+    let became_best = |place: &usize| {
         let until = moves.partition_point(|moved| moved <= place);
         let counts = counts_by(&list[..=*place], &moves[..until], window);
-        let own = count_in(&counts, list[*place].link);
-        counts.iter().all(|(_, count)| *count <= own)
+        match standing(&counts, list[*place].link) {
+            Ordering::Greater => true,
+            Ordering::Equal => tie == NEWEST_WINS,
+            Ordering::Less => false,
+        }
     };
-    let place = (0..list.len()).rev().find(none_higher)?;
+    let place = (0..list.len()).rev().find(became_best)?;
     Some(list[place].link)
+}
+
+/// The wrong copy "tie": a link that ties with a third one and is above the best one wins.
+fn above_present(list: &[Counted], moves: &[usize], window: u64) -> Option<Link> {
+    let (last, before) = list.split_last()?;
+    let counts = counts_by(list, moves, window);
+    let standing = standing(&counts, last.link);
+    if standing == Ordering::Greater {
+        return Some(last.link);
+    }
+    let until = moves.partition_point(|moved| *moved < before.len());
+    let present = above_present(before, &moves[..until], window)?;
+    let wins =
+        standing == Ordering::Equal && count_in(&counts, last.link) > count_in(&counts, present);
+    Some(if wins { last.link } else { present })
 }
 
 /// The wrong copy "best": the link with the highest count, the first of equals.
@@ -143,15 +188,10 @@ fn highest(counts: &[(Link, u64)]) -> Option<Link> {
         .map(|(link, _)| *link)
 }
 
-/// The links with a mark, and best, rising by link, each with its count.
-pub fn held(list: &[Counted], window: u64) -> Vec<(Link, u64)> {
-    words(list, window).map_or_else(Vec::new, |words| words.held)
-}
-
 /// All words of a list; none where it is empty, since no record is then held.
-pub fn words(list: &[Counted], window: u64) -> Option<Words> {
+pub fn words(list: &[Counted], window: u64, tie: u64) -> Option<Words> {
     let moves = moves(list, window);
-    let best = best_by(list, &moves, window)?;
+    let best = best_by(list, &moves, window, tie)?;
     let mut held = counts_by(list, &moves, window);
     if let Err(place) = held.binary_search_by_key(&best, |(link, _)| *link) {
         held.insert(place, (best, 0));

@@ -8,8 +8,10 @@ static uint32_t address(struct words *w) { return (uint32_t)read_number(w, UINT3
 static void read_size(struct words *w, struct line *l) { l->capacity = any_number(w); }
 static void read_cells(struct words *w, struct line *l) { l->cells = (size_t)read_number(w, BUFFER_CELLS); }
 
+/* The tie stands last and may be left out: it is then the default. */
 static void read_make(struct words *w, struct line *l)
 {
+    l->settings = (struct batman_settings)BATMAN_SETTINGS_DEFAULT;
     l->settings.version = any_number(w);
     l->settings.window = any_number(w);
     l->settings.timeout = any_number(w);
@@ -21,6 +23,8 @@ static void read_make(struct words *w, struct line *l)
         l->interfaces.row[i].broadcast = address(w);
         l->interfaces.row[i].first = (uint16_t)read_number(w, UINT16_MAX);
     }
+    if (has_word(*w))
+        l->settings.tie = any_number(w);
 }
 
 /* What receive and own packet end with: OUTPUT and octets. */
@@ -87,7 +91,7 @@ static enum line_kind read_call(struct word name, struct words *w, struct line *
     for (size_t i = 0; i < sizeof calls / sizeof *calls; i++)
         if (word_is(name, calls[i].name)) {
             calls[i].read(w, l);
-            return w->unreadable || next_word(w).length > 0 ? UNREADABLE : calls[i].kind;
+            return w->unreadable || has_word(*w) ? UNREADABLE : calls[i].kind;
         }
     return UNREADABLE;
 }

@@ -13,6 +13,8 @@ struct word next_word(struct words *w)
     return word;
 }
 
+bool has_word(struct words w) { return next_word(&w).length > 0; }
+
 bool word_is(struct word word, const char *name) { return word.length == strlen(name) && memcmp(word.text, name, word.length) == 0; }
 
 /* Puts a digit behind a number; false where it is no digit or the number would be above `most`. */

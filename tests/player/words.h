@@ -19,6 +19,7 @@ struct word {
 };
 
 struct word next_word(struct words *w);
+bool has_word(struct words w);
 bool word_is(struct word word, const char *name);
 
 /* A decimal number of at most `most`. */

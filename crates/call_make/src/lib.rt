@@ -75,6 +75,7 @@ fn fresh_head(settings: Settings, used: u64) -> [u64; HEAD]
         settings.timeout,
         settings.purge,
         settings.capacity,
+        settings.tie,
         used,
         0,
         0,

@@ -1,2 +1,2 @@
--- The search for the highest link, turn by turn.
+-- The search for a link that does not stand below this one, turn by turn.
 pub mod Leading

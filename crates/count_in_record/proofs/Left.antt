@@ -30,10 +30,10 @@ use Rattle.count_in_record.proofs.Rows.{first, first-is}
 
 -- settings that a policy follows
 abbrev pub some-config : Policy → Config
-some-config p = record { settings = record { version = 0; window = p .window; timeout = 0; purge = 0; capacity = 0 }; interfaces = [] }
+some-config p = record { settings = record { version = 0; window = p .window; timeout = 0; purge = 0; capacity = 0; tie = p .tie }; interfaces = [] }
 
 pub some-follows : (p : Policy) → Follows (some-config p) p
-some-follows p = record { window = refl }
+some-follows p = record { window = refl; tie = refl }
 
 -- the row of a record whose fields are in their ranges
 held-encoded : (e : ℕ × TableRecord) → e .1 .current < numbers → e .1 .lastTtl < octets → length (e .1 .links) ≤ linkMost → e .1 .best < pairs → rising (e .1 .links) ≡ true → Held (encodeRecord e)

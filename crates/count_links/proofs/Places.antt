@@ -29,11 +29,11 @@ use Rattle.window.specs.Marks.{wordOf}
 use Rattle.window.proofs.Bits.{bit-zero, bit-mark}
 use Rattle.rules.specs.Settings.{Config, linkCells}
 use Rattle.rules.specs.Rules.{standsBelow}
-use Rattle.rules.specs.Table.{marksAt}
+use Rattle.rules.specs.Table.{marksAt, isBelow}
 use Rattle.table_record.specs.Links.{linksFrom, linkAt}
 use Rattle.table_record.proofs.Links.{length-links, link-within, link-among, link-apart, marks-found, marks-missing}
 use Rattle.count_best_link.specs.declared.Step.{Step}
-use Rattle.count_best_link.specs.BestLink.{Links, moved, yields, chosen}
+use Rattle.count_best_link.specs.BestLink.{Links, moved, chosen}
 use Rattle.count_links.specs.declared.Spot.{Spot}
 use Rattle.count_links.specs.declared.Left.{Left}
 use Rattle.count_links.specs.Links.{stays, Located, SpotOf, Built, Arranged, Recounted}
@@ -138,7 +138,7 @@ module _ (p : ℕ × ℕ → Bool) (k : ℕ) (own : (e : ℕ × ℕ) → e .0 �
 chosen-put : (κ : Config) (key v best : ℕ) (ls : Links) → chosen κ key v best ls ≡ chosen κ key v best (put key v ls)
 chosen-put κ key v best ls =
     ap (λ (t : Bool). cond t key best)
-    (sym (all-others (yields κ key (count v)) key (λ e h. ap (λ (t : Bool). t || standsBelow κ (count (e .1)) (count v)) (eq-eqb (e .0) key h)) v ls))
+    (sym (all-others (isBelow κ key (count v)) key (λ e h. ap (λ (t : Bool). t || standsBelow κ (count (e .1)) (count v)) (eq-eqb (e .0) key h)) v ls))
 
 -- ---- what the code arranged about the place that it found is what the rules leave
 

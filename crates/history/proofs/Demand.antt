@@ -105,7 +105,7 @@ module _ (κ : Config) (hκ : allowed κ ≡ true) where
   unfolding logCount
   count-absent s l h = tally-none (W κ) (λ k. stays κ s l (distance (current κ s) k)) (λ k _. absent κ s l (distance (current κ s) k) h)
 
-  -- no other link is higher: as a test over the log's links, and of every link
+  -- every other link stands below: as a test over the log's links, and of every link
   abbrev test : Log → ℕ → Bool
   test s k = eqb k (latest s .link) || standsBelow κ (logCount κ s k) (logCount κ s (latest s .link))
 

@@ -2,7 +2,7 @@
 use Prim.Native.Nat.{ℕ, _+_, _-_, _<_, _≤_}
 use mathlib.Core.Path.{_≡_, refl, sym, ap, ap₂, _∙_}
 use mathlib.Core.Bool.{Bool, true, false, cond, _&&_, _||_, and-false}
-use lib.Dec.{eqb, leb}
+use lib.Dec.{eqb, leb, ltb}
 use native.Mathlib.Omega.{arith}
 use borrow.Author.Tests.{ltb-false, lt-ltb, le-ltb, eq-eqb, leb-true, leb-false, le-leb}
 use Rattle.lists.specs.Lists.{elem}
@@ -11,7 +11,7 @@ use Rattle.lists.proofs.Keyed.{elem-putKey}
 use Rattle.window.specs.Window.{numbers, distance, inside, advance}
 use Rattle.window.proofs.Numbers.{distance-back, distance-self, distance-higher, distance-lower, distance-turn}
 use Rattle.window.proofs.Words.{some-tally}
-use Rattle.rules.specs.Settings.{Config, allowed}
+use Rattle.rules.specs.Settings.{newestWins, Config, allowed}
 use Rattle.rules.specs.declared.Ogm.{Ogm}
 use Rattle.rules.specs.Rules.{sequenceOf, standsBelow}
 use Rattle.rules.proofs.Config.{window-low, window-high}
@@ -116,7 +116,14 @@ module _ (κ : Config) where
         some-tally W (λ k. stays κ s (latest s .link) (distance (current κ s) k)) (distance (current κ s) (sequenceOf (latest s))) (latest-in s)
         (ap (stays κ s (latest s .link)) (distance-back (current κ s) (sequenceOf (latest s)) (current-lt s) (sequence-lt (latest s))) ∙ latest-stays s)
 
-    -- and one without a mark is not higher
+    -- and one without a mark stands below it, whatever the tie
     pub zero-below : (s : Log) → standsBelow κ 0 (logCount κ s (latest s .link)) ≡ true
     unfolding standsBelow
-    zero-below s = le-leb 0 (logCount κ s (latest s .link)) (omega (arith, latest-some s))
+    zero-below s = go (eqb (κ .settings .tie) newestWins)
+      where
+        n : ℕ
+        n = logCount κ s (latest s .link)
+
+        go : (newest : Bool) → cond newest (leb 0 n) (ltb 0 n) ≡ true
+        go true = le-leb 0 n (omega (arith, latest-some s))
+        go false = lt-ltb 0 n (latest-some s)

@@ -140,7 +140,7 @@ module _ (κ : Config) (h : allowed κ ≡ true) (m : Ogm) (s : Log) where
       ap (λ (ls : List (ℕ × ℕ)). marksAt ls (m .link)) (mapValues-tabulate up (marksOf κ s) (heldLinks κ s))
       ∙ marksAt-tabulate κ s (λ l. up (marksOf κ s l)) (m .link) (heldLinks κ s) (λ e. ap up (marks-off κ s (m .link) e) ∙ up-zero)
 
-  -- no other held link is higher: no other link at all is
+  -- where every other held link stands below, every other link does
   highest-next : isHighest κ (m .link) (marksOf κ (cons m s) (m .link)) among ≡ othersBelow κ (cons m s) (m .link)
   unfolding othersBelow logLinks
   highest-next =

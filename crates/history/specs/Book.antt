@@ -46,11 +46,11 @@ unfoldable pub logLinks : Log → List ℕ
 logLinks (one m) = m .link ∷ []
 logLinks (cons m s) = putKey (m .link) (logLinks s)
 
--- no other link stands higher than l
+-- every other link stands below l
 unfoldable pub othersBelow : Config → Log → (l : ℕ) → Bool
 othersBelow κ s l = all (λ k. eqb k l || standsBelow κ (logCount κ s k) (logCount κ s l)) (logLinks s)
 
--- the link of the latest OGM after whose count no other link stood higher
+-- the link of the latest OGM after whose count every other link stood below
 unfoldable pub logBest : Config → Log → ℕ
 logBest κ (one m) = m .link
 logBest κ (cons m s) = cond (othersBelow κ (cons m s) (m .link)) (m .link) (logBest κ s)

@@ -42,11 +42,11 @@ pub record HowMany (κ : Config) (t : Log) (l : ℕ) : Type 0 where
   pub tells : (n : ℕ) → n < numbers → (hasStayed n ≡ true) ↔ Stayed κ t l n
   pub number : logCount κ t l ≡ tally (κ .settings .window) (λ k. hasStayed (distance (current κ t) k))
 
--- after the latest count of t no other link stood higher than its link
+-- after the latest count of t every other link stood below its link: no other stood higher or, under present link stays, none as high
 abbrev pub OthersBelow : Config → Log → Type 0
 OthersBelow κ t = (l : ℕ) → (l ≡ latest t .link → ⊥) → standsBelow κ (logCount κ t l) (logCount κ t (latest t .link)) ≡ true
 
--- b is the link of the latest message after whose count no other link stood higher
+-- b is the link of the latest message after whose count every other link stood below
 pub record Best (κ : Config) (s : Log) (b : ℕ) : Type 0 where
   pub at : Log
   pub stood : Stood s at

@@ -3,10 +3,10 @@ use Prim.Native.Nat.{ℕ}
 use mathlib.Core.List.{List, [], _∷_}
 use lib.ListN.{replicate}
 use Rattle.rules.specs.declared.Settings.{Settings}
-use Rattle.rules.specs.Settings.{cellsNeeded}
+use Rattle.rules.specs.Settings.{newestWins, presentStays, cellsNeeded}
 use Rattle.rules.specs.Calls.{Call, make, sweep, question, list}
 use Rattle.rules.specs.Rules.{Reading, fresh}
-use Rattle.rules.specs.Examples.{address, settings, config, packet, hear, write, played, nowhere, via, heard, unheard, wrote, total, told, joined}
+use Rattle.rules.specs.Examples.{address, settingsBy, settings, config, packet, hear, write, played, nowhere, via, heard, unheard, wrote, total, told, joined}
 use Rattle.rules.specs.Edges.{makeArgs, blank}
 
 pub record History : Type 0 where
@@ -37,6 +37,10 @@ ogmTtl a n t = hear a 0 0 12 (packet 900 0 t n)
 -- an echo that is taken: no record is held of its originator
 abbrev pub echoTaken : List ℕ
 echoTaken = heard 22 0 nowhere
+
+-- 9 and 10 by way of 20 and of 30, and 11 by 30 alone
+abbrev pub drawsLevel : List Call
+drawsLevel = send ∷ echo 20 1 ∷ echo 30 1 ∷ ogm 20 9 ∷ ogm 30 9 ∷ ogm 20 10 ∷ ogm 30 10 ∷ ogm 30 11 ∷ list 900 (replicate 2 blank) ∷ []
 
 unfoldable pub histories : List History
 histories =
@@ -71,6 +75,11 @@ histories =
     ∷ history (settings 8 32 1)
     (send ∷ echo 20 1 ∷ ogm 20 10 ∷ hear 20 0 0 12 (packet 901 0 50 10) ∷ sweep 640000 ∷ sweep 640001 ∷ question 900 ∷ hear 20 0 640001 12 (packet 901 0 50 10) ∷ [])
     (wrote 12 1 ∷ echoTaken ∷ heard 26 0 (via 20 1) ∷ unheard 10 0 ∷ total 0 ∷ total 1 ∷ told nowhere ∷ heard 26 0 (via 20 1) ∷ [])
+    -- equal counts: 10 via 30 draws level with 20, then 11 via 30 takes 30 above it; under present link stays 30 is best only then
+    ∷ history (settingsBy newestWins 8 32 64) drawsLevel
+    (wrote 12 1 ∷ echoTaken ∷ echoTaken ∷ heard 26 0 (via 20 1) ∷ heard 26 0 (via 30 1) ∷ heard 26 0 (via 20 2) ∷ heard 26 0 (via 30 2) ∷ heard 26 0 (via 30 3) ∷ total 2 ∷ [])
+    ∷ history (settingsBy presentStays 8 32 64) drawsLevel
+    (wrote 12 1 ∷ echoTaken ∷ echoTaken ∷ heard 26 0 (via 20 1) ∷ heard 25 0 (via 20 1) ∷ heard 26 0 (via 20 2) ∷ heard 25 0 (via 20 2) ∷ heard 26 0 (via 30 3) ∷ total 2 ∷ [])
     -- a refused make changes nothing, another starts anew
     ∷ history (settings 8 32 64)
     (send ∷ echo 20 1 ∷ ogm 20 10 ∷ make (makeArgs (settings 8 32 64) 0 (1 ∷ [])) ∷ question 900 ∷ make (makeArgs (settings 8 32 64) 1 (1 ∷ [])) ∷ question 900 ∷ send ∷ [])

@@ -10,7 +10,7 @@ use Rattle.lists.specs.Lists.{and, all}
 use Rattle.lists.proofs.Tests.{and-left, and-right, both, and-at, all-at}
 use Rattle.window.specs.Window.{numbers}
 use Rattle.rules.specs.declared.Settings.{Settings}
-use Rattle.rules.specs.Settings.{addresses, versionMost, windowMost, timeoutMost, purgeMost, capacityMost, interfaceMost, within, differ, ownAddresses, MakeArgs, Config, configOf, interfaceAt, interfaceTests, settingsTests, settingsOk, configTests, allowed, cellsNeeded, makeTests, makeAllowed}
+use Rattle.rules.specs.Settings.{addresses, versionMost, windowMost, timeoutMost, purgeMost, capacityMost, newestWins, tieMost, interfaceMost, within, differ, ownAddresses, MakeArgs, Config, configOf, interfaceAt, interfaceTests, settingsTests, settingsOk, configTests, allowed, cellsNeeded, makeTests, makeAllowed}
 
 -- what a capacity needs is within the bound of RULES 2.4
 pub cells-most : (capacity : ℕ) → cellsNeeded capacity ≤ 1024 + 256 * capacity
@@ -56,6 +56,9 @@ module _ (σ : Settings) (h : settingsOk σ ≡ true) where
 
   pub capacity-most : σ .capacity ≤ capacityMost
   capacity-most = within-high 1 capacityMost (σ .capacity) (at 4)
+
+  pub tie-most : σ .tie ≤ tieMost
+  tie-most = within-high newestWins tieMost (σ .tie) (at 5)
 
 -- ---- allowed settings with allowed interfaces
 

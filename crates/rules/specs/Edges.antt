@@ -5,11 +5,11 @@ use mathlib.Core.List.{List, [], _∷_, _++_, map}
 use lib.ListN.{replicate}
 use Rattle.rules.specs.declared.Settings.{Settings}
 use Rattle.rules.specs.declared.LinkRow.{LinkRow}
-use Rattle.rules.specs.Settings.{MakeArgs, defaults, cellsNeeded}
+use Rattle.rules.specs.Settings.{newestWins, presentStays, MakeArgs, defaults, cellsNeeded}
 use Rattle.rules.specs.Calls.{linkOf, Call, make, receive, own, sweep, question, list}
 use Rattle.rules.specs.Rules.{fresh}
 use Rattle.rules.specs.Table.{TableRecord, TableState, table}
-use Rattle.rules.specs.Examples.{Case, passes, sends, checks, makes, plays, leaves, refuses, formed, address, interface, settings, config, stage, recordWith, packet, hear, write, nowhere, via, heard, unheard, wrote, unwritten, total, refused, told, joined, Row, row}
+use Rattle.rules.specs.Examples.{Case, passes, sends, checks, makes, plays, leaves, refuses, formed, address, interface, settingsBy, settings, config, stage, recordWith, packet, hear, write, nowhere, via, heard, unheard, wrote, unwritten, total, refused, told, joined, Row, row}
 
 -- ---- packets, settings and tables
 
@@ -22,8 +22,8 @@ entriesWith (m ∷ ms) = 0 ∷ 0 ∷ 0 ∷ 0 ∷ m ∷ entriesWith ms
 abbrev pub checked : (version : ℕ) → List ℕ → Case
 checked v e = checks v (4 ∷ (replicate 11 0 ++ e))
 
-abbrev pub five : (version window timeout purge capacity : ℕ) → Settings
-five v w b p n = record { version = v; window = w; timeout = b; purge = p; capacity = n }
+abbrev pub six : (version window timeout purge capacity tie : ℕ) → Settings
+six v w b p n t = record { version = v; window = w; timeout = b; purge = p; capacity = n; tie = t }
 
 -- make with interfaces of these own addresses, so many in use
 abbrev pub makeArgs : Settings → (used : ℕ) → (owns : List ℕ) → MakeArgs
@@ -41,8 +41,11 @@ upFrom a zero = []
 upFrom a (suc n) = a ∷ upFrom (suc a) n
 
 -- W is 8; neighbours 20, 28 and 30 have rows; originator 900 has these links, by neighbour, and no other is held
+abbrev pub heldBy : (tie capacity current best : ℕ) → List (ℕ × List ℕ) → TableState
+heldBy t n c b ls = stage (settingsBy t 8 32 n) (20 ∷ 28 ∷ 30 ∷ []) ((900, recordWith 8 c b 0 ls) ∷ [])
+
 abbrev pub held : (capacity current best : ℕ) → List (ℕ × List ℕ) → TableState
-held n c b ls = stage (settings 8 32 n) (20 ∷ 28 ∷ 30 ∷ []) ((900, recordWith 8 c b 0 ls) ∷ [])
+held = heldBy newestWins
 
 abbrev pub empty : TableState
 empty = stage (settings 8 32 64) (20 ∷ []) []
@@ -53,7 +56,7 @@ single = held 64 10 20 ((20, 10 ∷ []) ∷ [])
 
 -- other settings than the stage's: version 7, W is 3, the purge timeout 5; neighbour 20's link has marks 9 and 10
 abbrev pub other : TableState
-other = stage (five 7 3 32 5 64) (20 ∷ []) ((900, recordWith 3 10 20 0 ((20, 9 ∷ 10 ∷ []) ∷ [])) ∷ [])
+other = stage (six 7 3 32 5 64 newestWins) (20 ∷ []) ((900, recordWith 3 10 20 0 ((20, 9 ∷ 10 ∷ []) ∷ [])) ∷ [])
 
 -- B is 2, and the row of neighbour 20 stands at distance 1
 abbrev pub aged : TableState
@@ -66,6 +69,13 @@ crowd n = stage (settings 8 32 64) (upFrom 20 n) []
 -- an echo of the first interface's last packet
 abbrev pub echoed : List ℕ
 echoed = packet (address 10 0 0 1) 64 50 5
+
+-- links whose counts are 2 and 1; and 1, 1 and 2
+abbrev pub level : List (ℕ × List ℕ)
+level = (20, 9 ∷ 10 ∷ []) ∷ (30, 9 ∷ []) ∷ []
+
+abbrev pub third : List (ℕ × List ℕ)
+third = (20, 10 ∷ []) ∷ (30, 9 ∷ []) ∷ (40, 9 ∷ 10 ∷ []) ∷ []
 
 -- eight links: neighbour 20's marks, neighbour 21's, and six with mark 10
 abbrev pub eight : (best : ℕ) → (first second : List ℕ) → TableState
@@ -210,6 +220,19 @@ edges =
     -- best: 12 via 30 leaves 20 without a mark, and best while 40 stands higher; without 40 it gives up its place
     ∷ play (held 64 10 20 ((20, 4 ∷ []) ∷ (40, 9 ∷ 10 ∷ []) ∷ [])) (hear 30 0 0 12 (packet 900 0 50 12) ∷ question 900 ∷ list 900 (replicate 3 blank) ∷ []) (heard 25 0 (via 20 0) ∷ told (via 20 0) ∷ total 3 ∷ [])
     ∷ play (held 64 10 20 ((20, 4 ∷ []) ∷ [])) (hear 30 0 0 12 (packet 900 0 50 12) ∷ question 900 ∷ list 900 (replicate 3 blank) ∷ []) (heard 26 0 (via 30 1) ∷ told (via 30 1) ∷ total 1 ∷ [])
+    -- equal counts: 10 via 30 draws level with 20, which is best, and 11 via 30 takes 30 above it
+    ∷ play (heldBy newestWins 64 10 20 level) (hear 30 0 0 12 (packet 900 0 50 10) ∷ hear 30 0 0 12 (packet 900 0 50 11) ∷ question 900 ∷ []) (heard 26 0 (via 30 2) ∷ heard 26 0 (via 30 3) ∷ told (via 30 3) ∷ [])
+    ∷ play (heldBy presentStays 64 10 20 level) (hear 30 0 0 12 (packet 900 0 50 10) ∷ hear 30 0 0 12 (packet 900 0 50 11) ∷ question 900 ∷ []) (heard 25 0 (via 20 2) ∷ heard 26 0 (via 30 3) ∷ told (via 30 3) ∷ [])
+    -- 30 stands above 20, which is best, and level with 40
+    ∷ play (heldBy newestWins 64 10 20 third) (hear 30 0 0 12 (packet 900 0 50 10) ∷ question 900 ∷ []) (heard 26 0 (via 30 2) ∷ told (via 30 2) ∷ [])
+    ∷ play (heldBy presentStays 64 10 20 third) (hear 30 0 0 12 (packet 900 0 50 10) ∷ question 900 ∷ hear 30 0 0 12 (packet 900 0 50 11) ∷ []) (heard 25 0 (via 20 1) ∷ told (via 20 1) ∷ heard 26 0 (via 30 3) ∷ [])
+    -- the best link itself draws level with another
+    ∷ play (heldBy presentStays 64 10 30 level) (hear 30 0 0 12 (packet 900 0 50 10) ∷ question 900 ∷ []) (heard 26 0 (via 30 2) ∷ told (via 30 2) ∷ [])
+    -- best without a mark stays where two others are level, and gives up its place to one
+    ∷ play (heldBy presentStays 64 10 20 ((20, 4 ∷ []) ∷ (40, 10 ∷ []) ∷ [])) (hear 30 0 0 12 (packet 900 0 50 12) ∷ list 900 (replicate 3 blank) ∷ []) (heard 25 0 (via 20 0) ∷ total 3 ∷ [])
+    ∷ play (heldBy presentStays 64 10 20 ((20, 4 ∷ []) ∷ [])) (hear 30 0 0 12 (packet 900 0 50 12) ∷ list 900 (replicate 3 blank) ∷ []) (heard 26 0 (via 30 1) ∷ total 1 ∷ [])
+    -- the first counted OGM makes its link best
+    ∷ play (stage (settingsBy presentStays 8 32 64) (20 ∷ []) []) (hear 20 0 0 12 (packet 900 0 50 10) ∷ []) (heard 26 0 (via 20 1) ∷ [])
     -- a duplicate passes with the record's last TTL alone, and leaves it; it is no duplicate on another link
     ∷ play single (hear 20 0 0 12 (packet 900 0 49 10) ∷ hear 20 0 0 12 (packet 900 0 50 10) ∷ hear 30 0 0 12 (packet 900 0 49 10) ∷ []) (heard 25 0 (via 20 1) ∷ heard 26 0 (via 20 1) ∷ heard 26 0 (via 30 1) ∷ [])
     -- counting sets it
@@ -267,23 +290,27 @@ edges =
     ∷ row (formed (fields 10 0 50 84 ((80, 0) ∷ (84, 1) ∷ []))) (0 ∷ [])
     ∷ row (formed (fields 10 0 50 81 ((80, 1) ∷ []))) (0 ∷ [])
     ∷ row (formed (fields 10 0 50 80 ((80, 256) ∷ []))) (0 ∷ [])
+    -- the tie is 0 or 1
+    ∷ row (formed (heldBy presentStays 64 10 20 level)) (1 ∷ [])
+    ∷ row (formed (heldBy 2 64 10 20 level)) (0 ∷ [])
     -- 1 to 4 interfaces, whose own addresses differ
     ∷ row (formed (owning [])) (0 ∷ [])
     ∷ row (formed (owning (1 ∷ 2 ∷ 3 ∷ 4 ∷ []))) (1 ∷ [])
     ∷ row (formed (owning (1 ∷ 2 ∷ 3 ∷ 4 ∷ 5 ∷ []))) (0 ∷ [])
     ∷ row (formed (owning (1 ∷ 2 ∷ 1 ∷ []))) (0 ∷ [])
     -- 12: each setting at its least, at its most, one beyond, and 0
-    ∷ row (tried (five 0 1 1 1 1) 1 (1 ∷ [])) (0 ∷ [])
-    ∷ row (tried (five 255 64 1000 4294967295 256) 1 (1 ∷ [])) (0 ∷ [])
-    ∷ row (tried (five 256 64 32 640000 64) 1 (1 ∷ [])) (12 ∷ [])
-    ∷ row (tried (five 4 65 32 640000 64) 1 (1 ∷ [])) (12 ∷ [])
-    ∷ row (tried (five 4 64 1001 640000 64) 1 (1 ∷ [])) (12 ∷ [])
-    ∷ row (tried (five 4 64 32 4294967296 64) 1 (1 ∷ [])) (12 ∷ [])
-    ∷ row (tried (five 4 64 32 640000 257) 1 (1 ∷ [])) (12 ∷ [])
-    ∷ row (tried (five 4 0 32 640000 64) 1 (1 ∷ [])) (12 ∷ [])
-    ∷ row (tried (five 4 64 0 640000 64) 1 (1 ∷ [])) (12 ∷ [])
-    ∷ row (tried (five 4 64 32 0 64) 1 (1 ∷ [])) (12 ∷ [])
-    ∷ row (tried (five 4 64 32 640000 0) 1 (1 ∷ [])) (12 ∷ [])
+    ∷ row (tried (six 0 1 1 1 1 newestWins) 1 (1 ∷ [])) (0 ∷ [])
+    ∷ row (tried (six 255 64 1000 4294967295 256 presentStays) 1 (1 ∷ [])) (0 ∷ [])
+    ∷ row (tried (six 256 64 32 640000 64 presentStays) 1 (1 ∷ [])) (12 ∷ [])
+    ∷ row (tried (six 4 65 32 640000 64 presentStays) 1 (1 ∷ [])) (12 ∷ [])
+    ∷ row (tried (six 4 64 1001 640000 64 presentStays) 1 (1 ∷ [])) (12 ∷ [])
+    ∷ row (tried (six 4 64 32 4294967296 64 presentStays) 1 (1 ∷ [])) (12 ∷ [])
+    ∷ row (tried (six 4 64 32 640000 257 presentStays) 1 (1 ∷ [])) (12 ∷ [])
+    ∷ row (tried (six 4 64 32 640000 64 2) 1 (1 ∷ [])) (12 ∷ [])
+    ∷ row (tried (six 4 0 32 640000 64 presentStays) 1 (1 ∷ [])) (12 ∷ [])
+    ∷ row (tried (six 4 64 0 640000 64 presentStays) 1 (1 ∷ [])) (12 ∷ [])
+    ∷ row (tried (six 4 64 32 0 64 presentStays) 1 (1 ∷ [])) (12 ∷ [])
+    ∷ row (tried (six 4 64 32 640000 0 presentStays) 1 (1 ∷ [])) (12 ∷ [])
     -- 0, 1, 4 and 5 interfaces in use; own addresses that differ only beyond the number in use, or not at all; address 0
     ∷ row (tried defaults 0 (1 ∷ 2 ∷ 3 ∷ 4 ∷ [])) (12 ∷ [])
     ∷ row (tried defaults 1 (1 ∷ 2 ∷ 3 ∷ 4 ∷ [])) (0 ∷ [])

@@ -14,7 +14,7 @@ use Rattle.rules.specs.declared.Settings.{Settings}
 use Rattle.rules.specs.declared.Interface.{Interface}
 use Rattle.rules.specs.declared.LinkRow.{LinkRow}
 use Rattle.rules.specs.declared.Route.{Route}
-use Rattle.rules.specs.Settings.{MakeArgs, Config}
+use Rattle.rules.specs.Settings.{newestWins, presentStays, MakeArgs, Config}
 use Rattle.rules.specs.Calls.{linkOf, neighbourOf, Answer, made, received, written, swept, asked, listed, Call, make, receive, own, Reply, refusal}
 use Rattle.rules.specs.Rules.{Reading, StateOf, fresh, step}
 use Rattle.rules.specs.Table.{TableRecord, TableState, rowDistance, table}
@@ -27,7 +27,7 @@ pub data Case : Type 0 where
   again : (W current : ℕ) (marks : List ℕ) (n : ℕ) → Case
   -- a record whose links, by neighbour, have these marks; then n arrives through a neighbour that has a row:
   -- the current number then, the best neighbour, and for each link its neighbour, its count and its marked numbers from the lowest
-  arrives : (W current best : ℕ) (links : List (ℕ × List ℕ)) (neighbour n : ℕ) → Case
+  arrives : (tie W current best : ℕ) (links : List (ℕ × List ℕ)) (neighbour n : ℕ) → Case
   -- a packet arrives, and no record is held: the flags and TTL octets of the copy, and every field of the answer
   passes : (hasRow : Bool) (sender originator flags ttl : ℕ) → Case
   -- an interface that sent n, with a row that recorded m, sends once more: the number it sent last, the row's distance, and how many rows are left
@@ -55,8 +55,12 @@ address a b c d = ((a * 256 + b) * 256 + c) * 256 + d
 abbrev pub interface : (own broadcast first : ℕ) → Interface
 interface a b n = record { own = a; broadcast = b; first = n }
 
+abbrev pub settingsBy : (tie W B capacity : ℕ) → Settings
+settingsBy t W B n = record { version = 4; window = W; timeout = B; purge = 640000; capacity = n; tie = t }
+
+-- newest wins, where a row doesn't name the tie
 abbrev pub settings : (W B capacity : ℕ) → Settings
-settings W B n = record { version = 4; window = W; timeout = B; purge = 640000; capacity = n }
+settings = settingsBy newestWins
 
 abbrev pub config : Settings → Config
 config σ =
@@ -123,8 +127,8 @@ played W n s (c ∷ cs) = answerShown (step W n s c .reply .answer) ++ played W 
 abbrev pub reply : Case → List ℕ
 reply (lies W c n) = flag (inside W c n)
 reply (again W c ms n) = flag (table .duplicate (config (settings W 32 64)) (recordWith W c 20 0 ((20, ms) ∷ [])) (linkOf 20 0) n)
-reply (arrives W c b ls a n) =
-    let s = stage (settings W 32 64) (20 ∷ 30 ∷ 40 ∷ []) ((900, recordWith W c b 0 ls) ∷ []) in
+reply (arrives t W c b ls a n) =
+    let s = stage (settingsBy t W 32 64) (20 ∷ 30 ∷ 40 ∷ []) ((900, recordWith W c b 0 ls) ∷ []) in
     maybe (lookup 900 (step table 0 s (hear a 0 0 12 (packet 900 0 50 n)) .state .records)) []
     (λ r. r .current ∷ neighbourOf (r .best) ∷ linksShown W (r .current) (r .links))
 reply (passes b a o f t) =
@@ -181,7 +185,7 @@ abbrev pub joined : List (List ℕ) → List ℕ
 joined [] = []
 joined (x ∷ xs) = x ++ joined xs
 
--- ---- P1 to P12; A is neighbour 20, B is 30, C is 40
+-- ---- P1 to P12; A is neighbour 20, B is 30, C is 40. Where a link is counted in a record that is held, the row names the tie
 
 pub record Row : Type 0 where
   pub poses : Case
@@ -200,19 +204,20 @@ examples =
     ∷ row (lies 8 5 65534) (1 ∷ [])
     ∷ row (lies 8 5 65533) (0 ∷ [])
     -- P3
-    ∷ row (arrives 8 10 20 ((20, 3 ∷ 7 ∷ 10 ∷ []) ∷ []) 20 12) (12 ∷ 20 ∷ 20 ∷ 3 ∷ 7 ∷ 10 ∷ 12 ∷ [])
+    ∷ row (arrives presentStays 8 10 20 ((20, 3 ∷ 7 ∷ 10 ∷ []) ∷ []) 20 12) (12 ∷ 20 ∷ 20 ∷ 3 ∷ 7 ∷ 10 ∷ 12 ∷ [])
     -- P4
-    ∷ row (arrives 8 10 20 ((20, 10 ∷ []) ∷ []) 20 17) (17 ∷ 20 ∷ 20 ∷ 2 ∷ 10 ∷ 17 ∷ [])
-    ∷ row (arrives 8 10 20 ((20, 10 ∷ []) ∷ []) 20 18) (18 ∷ 20 ∷ 20 ∷ 1 ∷ 18 ∷ [])
+    ∷ row (arrives presentStays 8 10 20 ((20, 10 ∷ []) ∷ []) 20 17) (17 ∷ 20 ∷ 20 ∷ 2 ∷ 10 ∷ 17 ∷ [])
+    ∷ row (arrives presentStays 8 10 20 ((20, 10 ∷ []) ∷ []) 20 18) (18 ∷ 20 ∷ 20 ∷ 1 ∷ 18 ∷ [])
     -- P5
-    ∷ row (arrives 8 10 20 ((20, 10 ∷ []) ∷ []) 20 2) (2 ∷ 20 ∷ 20 ∷ 1 ∷ 2 ∷ [])
+    ∷ row (arrives presentStays 8 10 20 ((20, 10 ∷ []) ∷ []) 20 2) (2 ∷ 20 ∷ 20 ∷ 1 ∷ 2 ∷ [])
     -- P6
     ∷ row (again 1 10 (10 ∷ []) 10) (1 ∷ [])
     -- P7
-    ∷ row (arrives 8 10 20 ((20, 3 ∷ 4 ∷ 5 ∷ []) ∷ (40, 9 ∷ 10 ∷ []) ∷ []) 30 12)
+    ∷ row (arrives presentStays 8 10 20 ((20, 3 ∷ 4 ∷ 5 ∷ []) ∷ (40, 9 ∷ 10 ∷ []) ∷ []) 30 12)
     (12 ∷ 20 ∷ 20 ∷ 1 ∷ 5 ∷ 30 ∷ 1 ∷ 12 ∷ 40 ∷ 2 ∷ 9 ∷ 10 ∷ [])
-    -- P8
-    ∷ row (arrives 8 10 20 ((20, 9 ∷ 10 ∷ []) ∷ (40, 9 ∷ []) ∷ []) 40 10) (10 ∷ 40 ∷ 20 ∷ 2 ∷ 9 ∷ 10 ∷ 40 ∷ 2 ∷ 9 ∷ 10 ∷ [])
+    -- P8, and its twin under present link stays
+    ∷ row (arrives newestWins 8 10 20 ((20, 9 ∷ 10 ∷ []) ∷ (40, 9 ∷ []) ∷ []) 40 10) (10 ∷ 40 ∷ 20 ∷ 2 ∷ 9 ∷ 10 ∷ 40 ∷ 2 ∷ 9 ∷ 10 ∷ [])
+    ∷ row (arrives presentStays 8 10 20 ((20, 9 ∷ 10 ∷ []) ∷ (40, 9 ∷ []) ∷ []) 40 10) (10 ∷ 20 ∷ 20 ∷ 2 ∷ 9 ∷ 10 ∷ 40 ∷ 2 ∷ 9 ∷ 10 ∷ [])
     -- P9
     ∷ row (passes false 900 900 0 50) (192 ∷ 49 ∷ heard 26 0 nowhere)
     -- P10

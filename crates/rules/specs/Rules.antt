@@ -17,7 +17,7 @@ use Rattle.wire.specs.PassOn.{flagsHere, flagsElsewhere, passedOn}
 use Rattle.rules.specs.declared.Route.{Route}
 use Rattle.rules.specs.declared.LinkRow.{LinkRow}
 use Rattle.rules.specs.declared.Ogm.{Ogm}
-use Rattle.rules.specs.Settings.{neighbourMost, linkMost, ttlLeast, MakeArgs, Config, configOf, makeAllowed, interfaceAt, isInUse, isOwn, isBroadcast}
+use Rattle.rules.specs.Settings.{newestWins, neighbourMost, linkMost, ttlLeast, MakeArgs, Config, configOf, makeAllowed, interfaceAt, isInUse, isOwn, isBroadcast}
 use Rattle.rules.specs.Calls.{linkOf, neighbourOf, interfaceOf, noRoute, routeBy, made, received, written, swept, asked, listed, receivedAs, writtenAs, ReceiveArgs, OwnArgs, Call, make, receive, own, sweep, question, list, Reply, answered, answeredWriting, answeredFilling, refusal}
 
 -- ---- readings
@@ -26,9 +26,10 @@ use Rattle.rules.specs.Calls.{linkOf, neighbourOf, interfaceOf, noRoute,
 abbrev pub sequenceOf : Ogm → ℕ
 sequenceOf m = m .sequence % numbers
 
--- a link with count x does not stand higher than one with count y (RULES 6.5)
+-- a link with count x stands below the receiving link, whose count is y: under newest wins if it isn't higher, under present link stays
+-- if it isn't as high (RULES 6.5)
 unfoldable pub standsBelow : Config → (x y : ℕ) → Bool
-standsBelow κ x y = leb x y
+standsBelow κ x y = cond (eqb (κ .settings .tie) newestWins) (leb x y) (ltb x y)
 
 -- send states: the last sent number under each interface that has sent
 abbrev pub Sends : Type 0

@@ -28,6 +28,16 @@ purgeMost = 4294967295
 abbrev pub capacityMost : ℕ
 capacityMost = 256
 
+-- the tie's two values: a receiving link with as high a count as another becomes best, or the present best link stays (RULES 6.5)
+abbrev pub newestWins : ℕ
+newestWins = 0
+
+abbrev pub presentStays : ℕ
+presentStays = 1
+
+abbrev pub tieMost : ℕ
+tieMost = presentStays
+
 abbrev pub interfaceMost : ℕ
 interfaceMost = 4
 
@@ -68,7 +78,7 @@ within low high n = leb low n && leb n high
 -- ---- settings and interfaces (RULES 2.1, 2.2)
 
 abbrev pub defaults : Settings
-defaults = record { version = 4; window = 64; timeout = 32; purge = 640000; capacity = 64 }
+defaults = record { version = 4; window = 64; timeout = 32; purge = 640000; capacity = 64; tie = presentStays }
 
 -- what make is given: settings, the fixed row of four interfaces, and the number in use
 pub record MakeArgs : Type 0 where
@@ -117,6 +127,7 @@ settingsTests σ =
     ∷ within 1 timeoutMost (σ .timeout)
     ∷ within 1 purgeMost (σ .purge)
     ∷ within 1 capacityMost (σ .capacity)
+    ∷ within newestWins tieMost (σ .tie)
     ∷ []
 
 unfoldable pub settingsOk : Settings → Bool
@@ -138,17 +149,19 @@ allowed κ = and (configTests κ)
 -- the policy is that of the settings
 pub record Follows (κ : Config) (p : Policy) : Type 0 where
   pub window : p .window ≡ κ .settings .window
+  pub tie : p .tie ≡ κ .settings .tie
 
 -- one that allowed settings have
 pub record Bounded (p : Policy) : Type 0 where
   pub least : 1 ≤ p .window
   pub most : p .window ≤ windowMost
+  pub tie : p .tie ≤ tieMost
 
 -- ---- cells, by the table's layout (RULES 2.4)
 
 -- one for each setting
 abbrev pub settingCells : ℕ
-settingCells = 5
+settingCells = 6
 
 -- the settings, the number in use, the time, and how many neighbour rows and originators are held
 abbrev pub headCells : ℕ

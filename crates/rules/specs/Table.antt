@@ -25,11 +25,15 @@ pub record TableRecord : Type 0 where
 abbrev pub marksAt : List (ℕ × ℕ) → (link : ℕ) → ℕ
 marksAt ls l = maybe (lookup l ls) 0 (λ v. v)
 
--- no other link has a higher count than link l with the word v (RULES 6.5)
-abbrev pub isHighest : Config → (l v : ℕ) → List (ℕ × ℕ) → Bool
-isHighest κ l v ls = all (λ (e : ℕ × ℕ). eqb (e .0) l || standsBelow κ (count (e .1)) (count v)) ls
+-- a link is l itself, or stands below a link with the count `high`
+abbrev pub isBelow : Config → (l high : ℕ) → ℕ × ℕ → Bool
+isBelow κ l high e = eqb (e .0) l || standsBelow κ (count (e .1)) high
 
--- the record x, in which this link has the word v, once the message is counted: this link is best if no other then has a higher count,
+-- every other link stands below link l with the word v (RULES 6.5)
+abbrev pub isHighest : Config → (l v : ℕ) → List (ℕ × ℕ) → Bool
+isHighest κ l v ls = all (isBelow κ l (count v)) ls
+
+-- the record x, in which this link has the word v, once the message is counted: this link is best if every other then stands below it,
 -- otherwise best stays, even with count 0; a link with no mark that isn't best gives up its place
 abbrev pub settle : Config → Ogm → (v : ℕ) → TableRecord → TableRecord
 settle κ m v x =

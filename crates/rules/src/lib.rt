@@ -16,6 +16,8 @@ pub struct Settings {
     pub purge: u64,
     // How many originators are held.
     pub capacity: u64,
+    // Which link is best where counts are equal: NEWEST_WINS or PRESENT_STAYS.
+    pub tie: u64,
 }
 
 // An interface row: own address, broadcast address, first sequence number.
@@ -34,9 +36,10 @@ pub struct Ogm {
     pub time: u64,
 }
 
-// What counting is told of the settings: the window size W.
+// What counting is told of the settings: the window size W, and the tie.
 pub struct Policy {
     pub window: u64,
+    pub tie: u64,
 }
 
 // What the best question answers. No route is all zeros.

@@ -11,6 +11,13 @@ pub const PURGE_MOST: u64 = 4294967295;
 
 pub const CAPACITY_MOST: u64 = 256;
 
+// The tie's two values.
+pub const NEWEST_WINS: u64 = 0;
+
+pub const PRESENT_STAYS: u64 = 1;
+
+pub const TIE_MOST: u64 = PRESENT_STAYS;
+
 // Of interfaces in use, of neighbour rows held, and of the links of one originator.
 pub const INTERFACES_MOST: u64 = 4;
 

@@ -1,6 +1,8 @@
 // A line as a call with its arguments.
 use crate::names::Call;
 use crate::names::line_of;
+use crate::tables::TIE;
+use crate::tables::TIE_DEFAULT;
 use script_numbers::MOST_8;
 use script_numbers::MOST_16;
 use script_numbers::MOST_32;
@@ -14,6 +16,7 @@ use script_words::next_word;
 ghost use mathlib.Core.Path.{_≡_};
 ghost use Prim.Native.Nat.{_≤_};
 ghost use lib.ListN.{length};
+ghost use Rattle.script_numbers.specs.Numbers.{numbersMost};
 ghost use Rattle.script_octets.specs.Octets.{Fits};
 
 // The most cells that are lent, the most octets of a packet, of HNA entries, and of an output, and the most rows that are
@@ -58,7 +61,7 @@ fn two(line: &[u8], at: usize, first: u64, second: u64) -> Numbers
     only_numbers(line, at, &limits)
 }
 
-// Five settings, how many interfaces are in use, and the four interface rows.
+// Five settings, how many interfaces are in use, the four interface rows, and the tie, which may be left out: it is then the default.
 fn make_numbers(line: &[u8], at: usize) -> Numbers
     requires { ⌜ at ≤ length (now line) ⌝ }
 {
@@ -81,8 +84,20 @@ fn make_numbers(line: &[u8], at: usize) -> Numbers
         MOST_32,
         MOST_32,
         MOST_16,
+        MOST_64,
     ];
-    only_numbers(line, at, &limits)
+    let named = only_numbers(line, at, &limits);
+    if named.good {
+        return named;
+    }
+    let n = only_numbers(line, at, &limits[..TIE]);
+    let mut value = n.value;
+    value[TIE] = TIE_DEFAULT;
+    Numbers {
+        value,
+        end: n.end,
+        good: n.good,
+    }
 }
 
 // No numbers. They are good where no word is left.
@@ -130,7 +145,7 @@ fn of_numbers(call: Call, line: &[u8], at: usize) -> Request
 
 // A call whose numbers have these limits, and then octets.
 fn of_octets(call: Call, line: &[u8], at: usize, limits: &[u64], packet: &mut [u8]) -> Request
-    requires { ⌜ (at ≤ length (now line)) × (length (now limits) ≤ 18) ⌝ }
+    requires { ⌜ (at ≤ length (now line)) × (length (now limits) ≤ numbersMost) ⌝ }
     ensures { λ r. ⌜ Fits (now (packet .exit)) (r .octets) ⌝ }
 {
     let n = read_numbers(line, at, limits);

@@ -11,6 +11,10 @@ use Rattle.script_numbers.specs.declared.Number.the-variants.{Is, Bad}
 use Rattle.script_numbers.specs.declared.Numbers.{Numbers}
 use Rattle.script_words.specs.Words.{fromWord, wordAt, afterWords}
 
+-- the most numbers that a call takes
+abbrev pub numbersMost : ℕ
+numbersMost = 19
+
 abbrev pub digit0 : ℕ
 digit0 = 48
 

@@ -7,7 +7,7 @@ ghost use lib.ListN.{length, drop};
 ghost use Rattle.script_numbers.specs.Numbers as N;
 
 // The most numbers that a call takes.
-pub const NUMBERS_MOST: usize = 18;
+pub const NUMBERS_MOST: usize = 19;
 
 // The largest number of 64, 32, 16 and 8 bits.
 pub const MOST_64: u64 = 18446744073709551615;
@@ -78,7 +78,7 @@ pub fn decimal(word: &[u8], most: u64) -> Number
 
 // The decimal numbers with which a line goes on from `at`, one for each limit.
 pub fn read_numbers(line: &[u8], at: usize, limits: &[u64]) -> Numbers
-    requires { ⌜ (at ≤ length (now line)) × (length (now limits) ≤ 18) ⌝ }
+    requires { ⌜ (at ≤ length (now line)) × (length (now limits) ≤ N.numbersMost) ⌝ }
     ensures { λ r. ⌜ N.ReadNumbers (drop at (now (line .entry))) (now (limits .entry)) (now (line .entry)) r ⌝ }
 {
     let mut value = [0u64; NUMBERS_MOST];
@@ -104,7 +104,7 @@ pub fn read_numbers(line: &[u8], at: usize, limits: &[u64]) -> Numbers
 
 // The numbers of a line whose arguments are numbers alone: no word may follow.
 pub fn only_numbers(line: &[u8], at: usize, limits: &[u64]) -> Numbers
-    requires { ⌜ (at ≤ length (now line)) × (length (now limits) ≤ 18) ⌝ }
+    requires { ⌜ (at ≤ length (now line)) × (length (now limits) ≤ N.numbersMost) ⌝ }
     ensures { λ r. ⌜ N.OnlyNumbers (drop at (now (line .entry))) (now (limits .entry)) r ⌝ }
 {
     let n = read_numbers(line, at, limits);

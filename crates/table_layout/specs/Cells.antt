@@ -13,13 +13,13 @@ use Rattle.rules.specs.Rules.{Sends}
 use Rattle.rules.specs.Table.{TableRows, TableRecord, TableState}
 use Rattle.rules.specs.WellFormed as R
 use Rattle.table_record.specs.Record.{encodeRecord, decodeRecord, unusedLinks}
-use Rattle.table_layout.specs.Layout.{versionAt, windowAt, timeoutAt, purgeAt, capacityAt, usedAt, timeAt, rowsAt, recordsAt, interfacePart, neighbourPart, recordPart}
+use Rattle.table_layout.specs.Layout.{versionAt, windowAt, timeoutAt, purgeAt, capacityAt, tieAt, usedAt, timeAt, rowsAt, recordsAt, interfacePart, neighbourPart, recordPart}
 use Rattle.table_layout.specs.Interfaces.{InterfaceRow, rowsWith, sendsOf, encodeInterface, decodeInterface, sentTests}
 
 -- ---- from a table to cells
 
 abbrev pub settingsRow : Settings → List ℕ
-settingsRow σ = σ .version ∷ σ .window ∷ σ .timeout ∷ σ .purge ∷ σ .capacity ∷ []
+settingsRow σ = σ .version ∷ σ .window ∷ σ .timeout ∷ σ .purge ∷ σ .capacity ∷ σ .tie ∷ []
 
 abbrev pub headOf : TableState → List ℕ
 headOf s = settingsRow (s .config .settings) ++ (length (s .config .interfaces) ∷ s .time ∷ length (s .rows) ∷ length (s .records) ∷ [])
@@ -42,6 +42,7 @@ settingsIn c = record {
   timeout = getD c timeoutAt 0;
   purge = getD c purgeAt 0;
   capacity = getD c capacityAt 0;
+  tie = getD c tieAt 0;
 }
 
 abbrev pub interfacesIn : List ℕ → List InterfaceRow

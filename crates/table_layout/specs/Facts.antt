@@ -4,10 +4,10 @@ use mathlib.Core.List.{List}
 use mathlib.Core.Bool.{true}
 use Prim.Native.Nat.{ℕ, _+_, _*_, _≤_, _<_}
 use lib.ListN.{length, take, drop, getD}
-use Rattle.rules.specs.Settings.{windowMost, timeoutMost, purgeMost, capacityMost, interfaceMost, neighbourMost, tableHead, recordCells}
+use Rattle.rules.specs.Settings.{windowMost, timeoutMost, purgeMost, capacityMost, tieMost, interfaceMost, neighbourMost, tableHead, recordCells}
 use Rattle.rules.specs.WellFormed as R
 use Rattle.window.specs.Window.{numbers}
-use Rattle.table_layout.specs.Layout.{windowAt, timeoutAt, purgeAt, capacityAt, usedAt, rowsAt, recordsAt, recordsFrom, lastAt, ownPlace}
+use Rattle.table_layout.specs.Layout.{windowAt, timeoutAt, purgeAt, capacityAt, tieAt, usedAt, rowsAt, recordsAt, recordsFrom, lastAt, ownPlace}
 use Rattle.table_layout.specs.Cells.{encode, decode}
 
 -- the cells are as many as the capacity needs, and no more rows are held than the limits allow
@@ -18,6 +18,7 @@ pub record Sized (c : List ℕ) : Type 0 where
   pub window-most : getD c windowAt 0 ≤ windowMost
   pub timeout : getD c timeoutAt 0 ≤ timeoutMost
   pub purge : getD c purgeAt 0 ≤ purgeMost
+  pub tie : getD c tieAt 0 ≤ tieMost
   pub used-least : 1 ≤ getD c usedAt 0
   pub used-most : getD c usedAt 0 ≤ interfaceMost
   pub rows : getD c rowsAt 0 ≤ neighbourMost

@@ -21,6 +21,9 @@ purgeAt = 3
 abbrev pub capacityAt : ℕ
 capacityAt = 4
 
+abbrev pub tieAt : ℕ
+tieAt = 5
+
 abbrev pub usedAt : ℕ
 usedAt = settingCells
 

@@ -14,8 +14,10 @@ pub const PURGE: usize = 3;
 
 pub const CAPACITY: usize = 4;
 
+pub const TIE: usize = 5;
+
 // The cells of the settings.
-const SETTINGS: usize = 5;
+const SETTINGS: usize = 6;
 
 pub const USED: usize = SETTINGS;
 

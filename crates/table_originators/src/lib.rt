@@ -10,6 +10,7 @@ use rules::Policy;
 use rules::Route;
 use table_layout::RECORDS;
 use table_layout::RECORDS_FROM;
+use table_layout::TIE;
 use table_layout::WINDOW;
 use table_record::WIDTH;
 ghost use mathlib.Core.Path.{_≡_};
@@ -30,6 +31,7 @@ pub fn policy_of(cells: &[u64]) -> Policy
 {
     Policy {
         window: cells[WINDOW],
+        tie: cells[TIE],
     }
 }
 

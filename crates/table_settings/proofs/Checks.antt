@@ -16,7 +16,7 @@ use Rattle.cells.proofs.Bools.{fails}
 use Rattle.rules.specs.declared.Settings.{Settings}
 use Rattle.rules.specs.Settings.{settingsOk, interfaceTests, allowed, isNumber, interfaceMost, neighbourMost, interfaceCells, recordCells, tableHead, cellsNeeded, within, differ, ownAddresses}
 use Rattle.rules.specs.WellFormed.{sendTests}
-use Rattle.rules.proofs.Config.{within-low, within-high, window-least, window-most, timeout-most, purge-most, capacity-most, allowed-by, settings-allowed, number-allowed, each-allowed, own-differ}
+use Rattle.rules.proofs.Config.{within-low, within-high, window-least, window-most, timeout-most, purge-most, capacity-most, tie-most, allowed-by, settings-allowed, number-allowed, each-allowed, own-differ}
 use Rattle.table_layout.specs.Layout.{capacityAt, usedAt, rowsAt, recordsAt, ownAt, broadcastAt, firstAt, sentAt, lastAt, interfacePart}
 use Rattle.table_layout.specs.Interfaces.{InterfaceRow, decodeInterface, sentTests}
 use Rattle.table_layout.specs.Cells.{settingsIn, interfacesIn, configIn, sendsIn, decode, unusedInterfaces, wellFormed}
@@ -116,6 +116,7 @@ head-sized c h =
       window-most = window-most σ s;
       timeout = timeout-most σ s;
       purge = purge-most σ s;
+      tie = tie-most σ s;
       used-least = within-low 1 interfaceMost (getD c usedAt 0) u;
       used-most = within-high 1 interfaceMost (getD c usedAt 0) u;
       rows = leb-true (getD c rowsAt 0) neighbourMost (and-left rows (records && size) b);

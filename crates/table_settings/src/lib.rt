@@ -6,6 +6,7 @@ use rules::limits::CAPACITY_MOST;
 use rules::limits::INTERFACES_MOST;
 use rules::limits::NEIGHBOURS_MOST;
 use rules::limits::PURGE_MOST;
+use rules::limits::TIE_MOST;
 use rules::limits::TIMEOUT_MOST;
 use rules::limits::VERSION_MOST;
 use rules::limits::WINDOW_MOST;
@@ -26,6 +27,7 @@ use table_layout::RECORDS;
 use table_layout::RECORDS_FROM;
 use table_layout::ROWS;
 use table_layout::SENT;
+use table_layout::TIE;
 use table_layout::TIMEOUT;
 use table_layout::USED;
 use table_layout::VERSION;
@@ -52,7 +54,7 @@ pub fn settings_ok(s: Settings) -> bool
         & (((1 <= s.window) & (s.window <= WINDOW_MOST))
             & (((1 <= s.timeout) & (s.timeout <= TIMEOUT_MOST))
                 & (((1 <= s.purge) & (s.purge <= PURGE_MOST))
-                    & ((1 <= s.capacity) & (s.capacity <= CAPACITY_MOST)))))
+                    & (((1 <= s.capacity) & (s.capacity <= CAPACITY_MOST)) & (s.tie <= TIE_MOST)))))
 }
 
 // Whether the first `used` of four addresses differ.
@@ -75,6 +77,7 @@ pub fn settings_in(cells: &[u64]) -> Settings
         timeout: cells[TIMEOUT],
         purge: cells[PURGE],
         capacity: cells[CAPACITY],
+        tie: cells[TIE],
     }
 }
 

@@ -49,7 +49,8 @@ fn beyond(cells: &[u64], random: &mut Random) -> Pokes {
 
 fn settings(cells: &[u64], random: &mut Random, huge: u64) -> Pokes {
     use head::{
-        CAPACITY, NEIGHBOURS_HELD, ORIGINATORS_HELD, PURGE, TIME, TIMEOUT, USED, VERSION, WINDOW,
+        CAPACITY, NEIGHBOURS_HELD, ORIGINATORS_HELD, PURGE, TIE, TIME, TIMEOUT, USED, VERSION,
+        WINDOW,
     };
     let newest = newest_record(cells);
     let (index, value) = random.pick(&[
@@ -65,6 +66,10 @@ fn settings(cells: &[u64], random: &mut Random, huge: u64) -> Pokes {
         (CAPACITY, 257),
         (CAPACITY, cells[CAPACITY] + 1),
         (CAPACITY, cells[CAPACITY] - 1),
+        (TIE, 0),
+        (TIE, 1),
+        (TIE, 2),
+        (TIE, 3),
         (USED, 0),
         (USED, 5),
         (USED, cells[USED] - 1),
@@ -81,6 +86,7 @@ fn settings(cells: &[u64], random: &mut Random, huge: u64) -> Pokes {
         (WINDOW, huge),
         (TIMEOUT, huge),
         (CAPACITY, huge),
+        (TIE, huge),
         (USED, huge),
         (NEIGHBOURS_HELD, huge),
         (ORIGINATORS_HELD, huge),

@@ -2,7 +2,7 @@
 
 use super::stage::Kind;
 use super::{breaks, odd, Generator};
-use crate::book::{Settings, LINKS_MOST};
+use crate::book::{Settings, LINKS_MOST, TIE_DEFAULT};
 use crate::cells::{capacity_of, cells_needed, record, RECORDS};
 use crate::play::{self, Lent};
 use crate::script::BUFFER_CELLS;
@@ -23,6 +23,10 @@ impl Generator<'_> {
         );
         for row in &settings.rows {
             line += &format!(" {} {} {}", row.own, row.broadcast, row.first);
+        }
+        // A third of the lines that mean the default leave the tie out.
+        if settings.tie != TIE_DEFAULT || self.random.chance(667) {
+            line += &format!(" {}", settings.tie);
         }
         self.say(line);
     }
@@ -53,7 +57,7 @@ impl Generator<'_> {
             .collect();
         let mut time = now;
         let purging = match self.stage.kind {
-            Kind::Runs | Kind::Links => 150,
+            Kind::Runs | Kind::Ties | Kind::Links => 150,
             Kind::Full => 30,
             _ => 600,
         };
@@ -159,7 +163,7 @@ impl Generator<'_> {
     pub(super) fn refused_make(&mut self) {
         let mut settings = self.settings();
         let huge = self.random.pick(&[1 << 32, 1 << 63, u64::MAX]);
-        match self.random.below(9) {
+        match self.random.below(10) {
             0 => settings.version = self.random.pick(&[256, 260, huge]),
             1 => settings.window = self.random.pick(&[0, 65, 256 + 8, huge + 8]),
             2 => settings.timeout = self.random.pick(&[0, 1001, huge]),
@@ -167,6 +171,7 @@ impl Generator<'_> {
             4 => settings.capacity = self.random.pick(&[0, 257, huge]),
             5 => settings.capacity = settings.capacity % 256 + 1,
             6 => settings.used = self.random.pick(&[0, 5, huge, (1 << 32) + 1]),
+            7 => settings.tie = self.random.pick(&[2, 2, 3, 256, 257, huge, (1 << 32) + 1]),
             _ => {
                 settings.used = settings.used.max(2);
                 let from = self.random.below(settings.used) as usize;

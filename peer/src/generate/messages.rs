@@ -23,9 +23,14 @@ impl Generator<'_> {
         time.saturating_add(step)
     }
 
+    /// The links with a row.
+    fn rows(&self) -> Vec<Link> {
+        self.book().rows().map(|(link, _)| link).collect()
+    }
+
     pub(super) fn row(&mut self) -> Option<Link> {
-        let rows: Vec<Link> = self.book().rows().map(|(link, _)| link).collect();
-        (!rows.is_empty()).then(|| self.random.pick(&rows))
+        let rows = self.rows();
+        self.random.pick_any(&rows)
     }
 
     /// A link with a row; in a stretch of runs mostly the one before.
@@ -48,7 +53,7 @@ impl Generator<'_> {
         let known = match self.stage.kind {
             Kind::Full => 200,
             Kind::Links => 850,
-            Kind::Runs => 970,
+            Kind::Runs | Kind::Ties => 970,
             _ => 600,
         };
         if !held.is_empty() && self.random.chance(known) {
@@ -70,6 +75,9 @@ impl Generator<'_> {
         if self.stage.kind == Kind::Links && self.random.chance(400) {
             // Many links are marked only where the window stays.
             return current.wrapping_sub(self.random.pick(&[0, 0, within]));
+        }
+        if self.stage.kind == Kind::Ties && self.random.chance(900) {
+            return current.wrapping_add(1);
         }
         if self.stage.kind == Kind::Runs && self.random.chance(950) {
             return match self.random.below(200) {
@@ -331,6 +339,10 @@ impl Generator<'_> {
 
     pub(super) fn message(&mut self, link: Link, originator: u32) {
         let number = self.number(originator);
+        self.numbered_message(link, originator, number);
+    }
+
+    fn numbered_message(&mut self, link: Link, originator: u32, number: u16) {
         let ttl = self.ttl(originator);
         let flags = self.flags();
         let packet = self.packet(flags, ttl, number, originator);
@@ -357,8 +369,8 @@ impl Generator<'_> {
         let originator = self.originator();
         let window = self.settings().window;
         let list = self.book().list_of(originator);
-        let Some((best, current)) = words::best(list, window).zip(words::current(list, window))
-        else {
+        let best = self.book().words_of(originator).map(|words| words.best);
+        let Some((best, current)) = best.zip(words::current(list, window)) else {
             return self.message_by_row();
         };
         let marks = words::marks(list, window);
@@ -368,16 +380,65 @@ impl Generator<'_> {
             .map(|(_, number)| current.wrapping_sub(*number))
             .min()
             .unwrap_or(0);
-        let rows: Vec<Link> = self.book().rows().map(|(link, _)| link).collect();
-        let others: Vec<Link> = rows.into_iter().filter(|link| *link != best).collect();
-        if others.is_empty() {
+        let mut others = self.rows();
+        others.retain(|link| *link != best);
+        let Some(link) = self.random.pick_any(&others) else {
             return self.message_by_row();
-        }
-        let link = self.random.pick(&others);
+        };
         let number = current.wrapping_sub(behind).wrapping_add(window as u16);
         let ttl = self.ttl(originator);
         let packet = self.packet(0, ttl, number, originator);
         self.receive_packet(link, packet);
+    }
+
+    /// A message by every link with a row, in no order; here and there one misses it.
+    pub(super) fn message_by_all(&mut self) {
+        let originator = self.originator();
+        let number = self.number(originator);
+        let mut left = self.rows();
+        while !left.is_empty() {
+            let link = self.random.take(&mut left);
+            if self.random.chance(800) {
+                self.numbered_message(link, originator, number);
+            }
+        }
+    }
+
+    /// A number inside the window by a link that it lifts to the highest other link's count,
+    /// or to one above it.
+    pub(super) fn draw_level(&mut self) {
+        let originator = self.originator();
+        match self.near_level(originator) {
+            Some((link, number)) => self.numbered_message(link, originator, number),
+            None => self.message_by_row(),
+        }
+    }
+
+    /// A link with a row that is level with the highest other link or one below, and a number
+    /// inside the window that is not marked on it.
+    fn near_level(&mut self, originator: u32) -> Option<(Link, u16)> {
+        let words = self.book().words_of(originator)?;
+        let mut near = self.rows();
+        near.retain(|link| {
+            let (count, other) = (words.count(*link), words.highest_other(*link));
+            count == other || count + 1 == other
+        });
+        let link = self.random.pick_any(&near)?;
+        let number = self.unmarked(originator, link)?;
+        Some((link, number))
+    }
+
+    /// A number inside the originator's window that is not marked on a link.
+    fn unmarked(&mut self, originator: u32, link: Link) -> Option<u16> {
+        let window = self.settings().window;
+        let list = self.book().list_of(originator);
+        let current = words::current(list, window)?;
+        let marks = words::marks(list, window);
+        let numbers: Vec<u16> = (0..window as u16)
+            .map(|below| current.wrapping_sub(below))
+            .filter(|number| !marks.contains(&(link, *number)))
+            .collect();
+        self.random.pick_any(&numbers)
     }
 
     /// A message through any link, direct or not.

@@ -32,4 +32,14 @@ impl Random {
     pub fn pick<T: Copy>(&mut self, values: &[T]) -> T {
         values[self.below(values.len() as u64) as usize]
     }
+
+    /// One of the given values, where there are any.
+    pub fn pick_any<T: Copy>(&mut self, values: &[T]) -> Option<T> {
+        (!values.is_empty()).then(|| self.pick(values))
+    }
+
+    /// Takes out one of the given values.
+    pub fn take<T>(&mut self, values: &mut Vec<T>) -> T {
+        values.swap_remove(self.below(values.len() as u64) as usize)
+    }
 }

@@ -1,7 +1,7 @@
 //! The settings of each make and the addresses that play after it.
 
 use super::Generator;
-use crate::book::{InterfaceRow, Settings, INTERFACES_MOST};
+use crate::book::{InterfaceRow, Settings, INTERFACES_MOST, NEWEST_WINS, PRESENT_STAYS};
 use crate::words::Link;
 
 /// What a stretch between two makes is mainly about.
@@ -13,6 +13,8 @@ pub enum Kind {
     Links,
     /// Runs of numbers by one link and then another, so that windows fill and best lags.
     Runs,
+    /// The same numbers by several links, so that their counts draw level and part by one.
+    Ties,
     /// More than 32 neighbours that echo.
     Neighbours,
     /// A short link timeout, reached often.
@@ -38,9 +40,10 @@ pub struct Stage {
 impl Generator<'_> {
     pub(super) fn choose_kind(&mut self) -> Kind {
         match self.random.below(1000) {
-            0..280 => Kind::General,
-            280..480 => Kind::Links,
-            480..720 => Kind::Runs,
+            0..200 => Kind::General,
+            200..360 => Kind::Links,
+            360..520 => Kind::Runs,
+            520..720 => Kind::Ties,
             720..800 => Kind::Neighbours,
             800..975 => Kind::Timeout,
             975..997 => Kind::Full,
@@ -53,7 +56,7 @@ impl Generator<'_> {
         let any_window = 1 + random.below(64);
         let window = match kind {
             Kind::Links => random.pick(&[1, 2, 8, 8, 8, 63, 64, 64]),
-            Kind::Runs => random.pick(&[2, 4, 6, 8, 8, 8, 63, 64, any_window]),
+            Kind::Runs | Kind::Ties => random.pick(&[2, 4, 6, 8, 8, 8, 63, 64, any_window]),
             _ => random.pick(&[1, 2, 8, 8, 63, 64, any_window]),
         };
         let timeout = match kind {
@@ -72,10 +75,20 @@ impl Generator<'_> {
             window,
             timeout,
             purge: match kind {
-                Kind::Runs | Kind::Full => random.pick(&[100, 5000, 640_000, 4_294_967_295]),
+                Kind::Runs | Kind::Ties | Kind::Full => {
+                    random.pick(&[100, 5000, 640_000, 4_294_967_295])
+                }
                 _ => random.pick(&[1, 2, 10, 100, 5000, 640_000, 4_294_967_295]),
             },
             capacity,
+            // Where the present link stays, a third of the make lines leave the tie out.
+            tie: random.pick(&[
+                NEWEST_WINS,
+                NEWEST_WINS,
+                PRESENT_STAYS,
+                PRESENT_STAYS,
+                PRESENT_STAYS,
+            ]),
             used: match kind {
                 Kind::Links => 2 + random.below(3),
                 _ => 1 + random.below(4),
@@ -123,7 +136,7 @@ impl Generator<'_> {
     pub(super) fn choose_stage(&mut self, kind: Kind, settings: &Settings) -> Stage {
         let (neighbours, originators) = match kind {
             Kind::Links => (5 + self.random.below(8), 1 + self.random.below(3)),
-            Kind::Runs => (2 + self.random.below(3), 1),
+            Kind::Runs | Kind::Ties => (2 + self.random.below(3), 1),
             Kind::Neighbours => (34 + self.random.below(6), 3),
             Kind::Full => (4, settings.capacity * 5 / 4 + 5),
             _ => (2 + self.random.below(5), settings.capacity + 2),

@@ -8,7 +8,7 @@ use lib.ListN.{length, drop, getD, length-set}
 use borrow.Author.Tests.{eqb-true, eqb-false}
 use Rattle.script_numbers.specs.declared.Number.the-variants.{Is}
 use Rattle.script_words.specs.Words.{afterWords}
-use Rattle.script_numbers.specs.Numbers.{numberAt}
+use Rattle.script_numbers.specs.Numbers.{numbersMost, numberAt}
 use Rattle.script_numbers.proofs.Laws.{number-read, one-word-more, each-more}
 use Rattle.script_numbers.proofs.read_numbers.Statement.{statement}
 use Rattle.script_numbers.proofs.read_numbers.Tie as tie
@@ -17,7 +17,7 @@ abbrev Inv-loop : tie.InvT-loop
 Inv-loop line at limits value₀ end₀ i₀ value end i =
     (end ≤ length line)
     × (i ≤ length limits)
-    × (length value ≡ 18)
+    × (length value ≡ numbersMost)
     × (drop end line ≡ afterWords i (drop at line))
     × ((k : ℕ) → k < i → numberAt (drop at line) limits k ≡ Is (getD value k 0))
 

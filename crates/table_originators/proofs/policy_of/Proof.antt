@@ -7,7 +7,7 @@ use Rattle.table_originators.proofs.policy_of.Tie as tie
 
 returns : tie.Need-returns
 unfolding decode
-returns c = let k = c .before .pre .sized in (record { window = refl }, record { least = k .window-least; most = k .window-most })
+returns c = let k = c .before .before .pre .sized in (record { window = refl; tie = refl }, record { least = k .window-least; most = k .window-most; tie = k .tie })
 
 pub policy-of-spec : {M : Type 1} → statement M
-policy-of-spec = tie.close (tie.spec (λ c. search needs) returns)
+policy-of-spec = tie.close (tie.spec (λ c. search needs) (λ c. search needs) returns)
