@@ -22,6 +22,7 @@ enum batman_limit {
     BATMAN_HEADER_SIZE = 12,      /* octets of a message before its HNA entries */
     BATMAN_ENTRY_SIZE = 5,        /* octets of an HNA entry */
     BATMAN_PACKET_MOST = 1472,    /* octets of a packet */
+    BATMAN_READ_SIZE = BATMAN_PACKET_MOST + 1, /* octets to read a datagram into: a longer one, cut to this, is still too long for a packet */
     BATMAN_INTERFACES = 4,        /* interface rows given to make */
     BATMAN_NEIGHBOURS_MOST = 32,  /* neighbour rows held */
     BATMAN_LINKS_MOST = 8,        /* links held of one originator */
@@ -58,6 +59,11 @@ enum batman_verdict {
     BATMAN_KEPT = 25,             /* taken, and not passed on */
     BATMAN_PASSED_ON = 26         /* taken, and passed on: the copy for the receiving interface is in the output */
 };
+
+/* ---- what is lent
+ *
+ * Each buffer of a call is a pointer and how many elements it has. The pointer is aligned for them (8 octets for cells, 4 for rows, any for
+ * packets, HNA octets and outputs); with length 0 it may be anything, NULL too. Buffers of one call must not overlap, packet and output among them. */
 
 /* Checks a received packet, before anything else is done with it.
  *
@@ -157,7 +163,8 @@ uint64_t batman_make(uint64_t *cells, size_t count, struct batman_settings setti
 
 /* Takes a received packet: `length` octets from `sender`, heard by `interface` at `time` in milliseconds. Refused by 1 to 11.
  * With 26 the first `length` octets of the output are the copy to be sent on the receiving interface; nothing else is ever written there.
- * `room` is how many octets the output has, and must be at least `length` whatever the verdict. */
+ * `room` is how many octets the output has, and must be at least `length` whatever the verdict: 4 stands before 5, so a stranger's long datagram
+ * gets 4 from a shorter output. Read datagrams into BATMAN_READ_SIZE octets, lend an output of as many, and drop what gets 4. */
 struct batman_received batman_receive(uint64_t *cells, size_t count, const uint8_t *packet, size_t length, uint32_t sender,
                                       uint64_t interface, uint64_t time, uint8_t *output, size_t room);
 

@@ -17,7 +17,7 @@ int main()
     interfaces.row[0] = {100, 255, 7};
     interfaces.used = 1;
     std::vector<uint64_t> cells(batman_cells_needed(settings.capacity));
-    std::vector<uint8_t> output(BATMAN_PACKET_MOST);
+    std::vector<uint8_t> output(BATMAN_READ_SIZE);
     std::vector<batman_link_row> rows(BATMAN_LINKS_MOST);
 
     bool right = batman_make(cells.data(), cells.size(), settings, interfaces) == 0;
