@@ -42,6 +42,9 @@ c-tests:
 	@$(BUILD)/cplusplus
 	@$(TESTED) examples/check.c $(ARCHIVE) -o $(BUILD)/check
 	@$(BUILD)/check | diff tests/check.expected - && echo "example: prints what it should"
+	@$(BUILD)/check 04003200012c00000a010007 04C0fF07FFFF10D2C0A80901C0a8090018 04003200012c00000a0100 05003000000510d20a4e0003 04003200012c00000a01000701 \
+	    04003200012c00000a010007000000000000000000ff | diff tests/check-arguments.expected - && echo "example: reads packets in hex"
+	@$(BUILD)/check 04003200012g 2> /dev/null; [ $$? -eq 2 ] || { echo "error: the example took a bad argument"; exit 1; }
 	@$(TESTED) $(YARD) $(ARCHIVE) -o $(BUILD)/yard
 	@$(BUILD)/yard --columns 3 --rows 3 --rounds 12 --seed 7 | diff tests/yard.expected - && echo "yard: prints what it should"
 	@tools/readme-example README.md > $(BUILD)/readme.c
