@@ -36,6 +36,8 @@ c-tests:
 	@$(BUILD)/packet_check tests/outside/batmand-0.3.2.txt tests/outside/batmand-as-draft.txt
 	@$(TESTED) tests/calls.c $(ARCHIVE) -o $(BUILD)/calls
 	@$(BUILD)/calls
+	@$(TESTED) tests/strangers.c $(ARCHIVE) -o $(BUILD)/strangers
+	@$(BUILD)/strangers
 	@$(TESTED) $(PLAYER) $(ARCHIVE) -o $(BUILD)/player
 	@$(BUILD)/player < crates/replay/stdin > $(BUILD)/player.out && diff crates/replay/stdout $(BUILD)/player.out && echo "player: prints what replay prints"
 	@$(CXX) $(CFLAGS) $(SANITIZE) -std=c++17 -Wall -Wextra -Werror -pedantic -Iinclude tests/cplusplus.cpp $(ARCHIVE) -o $(BUILD)/cplusplus
