@@ -8,7 +8,7 @@ BUILD = target/c
 SANITIZE = -fsanitize=address,undefined -fno-sanitize-recover=all
 YARD = demo/yard.c demo/options.c demo/reader.c demo/radio.c demo/svg.c
 PLAYER = tests/player/play.c tests/player/script.c tests/player/words.c tests/player/lent.c
-TESTED = $(CC) $(CFLAGS) $(WARN) $(SANITIZE) -Iinclude
+TESTED = $(CC) $(CFLAGS) $(WARN) $(SANITIZE) -Iinclude -Ifilter
 
 .PHONY: demo test archive c-tests bench
 
@@ -47,6 +47,8 @@ c-tests:
 	@$(BUILD)/check 04003200012c00000a010007 04C0fF07FFFF10D2C0A80901C0a8090018 04003200012c00000a0100 05003000000510d20a4e0003 04003200012c00000a01000701 \
 	    04003200012c00000a010007000000000000000000ff | diff tests/check-arguments.expected - && echo "example: reads packets in hex"
 	@$(BUILD)/check 04003200012g 2> /dev/null; [ $$? -eq 2 ] || { echo "error: the example took a bad argument"; exit 1; }
+	@$(TESTED) tests/relay_filter.c filter/relay_filter.c $(ARCHIVE) -o $(BUILD)/relay_filter
+	@$(BUILD)/relay_filter
 	@$(TESTED) $(YARD) $(ARCHIVE) -o $(BUILD)/yard
 	@$(BUILD)/yard --columns 3 --rows 3 --rounds 12 --seed 7 | diff tests/yard.expected - && echo "yard: prints what it should"
 	@tools/readme-example README.md > $(BUILD)/readme.c
