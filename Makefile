@@ -6,16 +6,16 @@ WARN = -std=c11 -Wall -Wextra -Werror
 ARCHIVE = target/staticlib/libbatman.a
 BUILD = target/c
 SANITIZE = -fsanitize=address,undefined -fno-sanitize-recover=all
-YARD = demo/yard.c demo/options.c demo/reader.c demo/radio.c demo/svg.c
+YARD = demo/main.c demo/options.c demo/run.c demo/yard.c demo/reader.c demo/radio.c demo/picture.c demo/svg.c filter/relay_filter.c
 PLAYER = tests/player/play.c tests/player/script.c tests/player/words.c tests/player/lent.c
 TESTED = $(CC) $(CFLAGS) $(WARN) $(SANITIZE) -Iinclude -Ifilter
 
 .PHONY: demo test archive c-tests bench
 
-# A yard of readers over lossy radio: prints how their routes form, and draws those to reader 0.
+# A yard of readers over lossy radio: prints how their routes form, and draws those to the reader in the middle.
 demo: archive
 	@mkdir -p $(BUILD)
-	@$(CC) $(CFLAGS) $(WARN) -Iinclude $(YARD) $(ARCHIVE) -o $(BUILD)/demo
+	@$(CC) $(CFLAGS) $(WARN) -Iinclude -Ifilter $(YARD) $(ARCHIVE) -o $(BUILD)/demo
 	@$(BUILD)/demo --svg target/yard.svg
 
 # The archive that a C program links: proved first, then compiled. Each function is made to begin on a cache line, so that how fast its loops are does not
@@ -51,6 +51,8 @@ c-tests:
 	@$(BUILD)/relay_filter
 	@$(TESTED) $(YARD) $(ARCHIVE) -o $(BUILD)/yard
 	@$(BUILD)/yard --columns 3 --rows 3 --rounds 12 --seed 7 | diff tests/yard.expected - && echo "yard: prints what it should"
+	@$(BUILD)/yard --svg $(BUILD)/yard.svg > $(BUILD)/yard.out && diff docs/yard.svg $(BUILD)/yard.svg
+	@$(BUILD)/yard --svg $(BUILD)/yard.svg --filter 0 > $(BUILD)/yard.out && diff docs/yard-without-filter.svg $(BUILD)/yard.svg && echo "yard: draws what README shows"
 	@tools/readme-example README.md > $(BUILD)/readme.c
 	@$(TESTED) $(BUILD)/readme.c $(ARCHIVE) -o $(BUILD)/readme
 	@$(BUILD)/readme | diff tests/readme.expected - && echo "README: its example compiles as printed and prints what it says"

@@ -8,38 +8,48 @@
 
 #include "batman.h"
 
-enum { SIDE_MOST = 16 }; /* 256 readers: each table holds at most 256 originators */
+enum {
+    SIDE_MOST = 16, /* 256 readers: each table holds at most 256 originators */
+    WINDOW_MOST = 64
+};
 
 struct option {
     const char *name, *value, *meaning;
-    uint64_t least, most;
-    uint64_t *number;  /* for an option that is a number, */
-    const char **text; /* or for one that is a text */
+    uint64_t least, most, step; /* a number is one of least, least + step, .. */
+    uint64_t *number;           /* for an option that is a number, */
+    const char **text;          /* or for one that is a text */
 };
 
-enum { OPTIONS = 7 };
+enum { OPTIONS = 10 };
 
 static void list_options(struct options *o, struct option list[OPTIONS])
 {
-    list[0] = (struct option){"--columns", "N", "readers in a row, 1 to 16", 1, SIDE_MOST, &o->columns, NULL};
-    list[1] = (struct option){"--rows", "N", "rows of readers, 1 to 16", 1, SIDE_MOST, &o->rows, NULL};
-    list[2] = (struct option){"--loss", "N", "packets of 100 lost between next readers, 0 to 90", 0, 90, &o->loss, NULL};
-    list[3] = (struct option){"--rounds", "N", "rounds, in which each reader sends once, 1 to 100000", 1, 100000, &o->rounds, NULL};
-    list[4] = (struct option){"--seed", "N", "any number; the same one gives the same run", 0, UINT64_MAX, &o->seed, NULL};
-    list[5] = (struct option){"--tie", "N", "0 newest wins, 1 present link stays", BATMAN_NEWEST_WINS, BATMAN_PRESENT_STAYS, &o->tie, NULL};
-    list[6] = (struct option){"--svg", "FILE", "draw the next hops towards reader 0", 0, 0, NULL, &o->svg};
+    struct yard_settings *y = &o->yard;
+    const struct option all[OPTIONS] = {
+        {"--columns", "N", "readers in a row, 1 to 16", 1, SIDE_MOST, 1, &y->columns, NULL},
+        {"--rows", "N", "rows of readers, 1 to 16", 1, SIDE_MOST, 1, &y->rows, NULL},
+        {"--neighbours", "N", "8: readers hear those around them, 4: not across corners", RADIO_BESIDE, RADIO_AROUND, RADIO_AROUND - RADIO_BESIDE, &y->neighbours, NULL},
+        {"--loss", "N", "packets of 100 lost between readers side by side, 0 to 90", 0, 90, 1, &y->loss, NULL},
+        {"--rounds", "N", "rounds, in which each reader sends once, 1 to 100000", 1, 100000, 1, &o->rounds, NULL},
+        {"--seed", "N", "any number; the same one gives the same run", 0, UINT64_MAX, 1, &y->seed, NULL},
+        {"--window", "N", "sequence numbers in the window, 1 to 64", 1, WINDOW_MOST, 1, &y->window, NULL},
+        {"--tie", "N", "0 newest wins, 1 present link stays", BATMAN_NEWEST_WINS, BATMAN_PRESENT_STAYS, 1, &y->tie, NULL},
+        {"--filter", "N", "readers of 100 that have the relay filter, 0 to 100", 0, YARD_ALL, 1, &y->filter, NULL},
+        {"--svg", "FILE", "draw the next hops towards the gate, the reader in the middle", 0, 0, 1, NULL, &o->svg},
+    };
+    memcpy(list, all, sizeof all);
 }
 
 static void help(const struct option list[OPTIONS])
 {
     printf("Readers on a grid find routes to each other over lossy radio.\n\nusage: yard [options]\n\n");
     for (int i = 0; i < OPTIONS; i++) {
-        printf("  %-10s %-5s %s", list[i].name, list[i].value, list[i].meaning);
+        printf("  %-13s %-7s %s", list[i].name, list[i].value, list[i].meaning);
         if (list[i].number != NULL)
             printf(" (%" PRIu64 ")", *list[i].number);
         printf("\n");
     }
-    printf("  %-10s %-5s this text\n", "--help", "");
+    printf("  %-13s %-7s this text\n", "--help", "");
 }
 
 static _Noreturn void bad_use(const char *name, const char *what)
@@ -52,12 +62,13 @@ static _Noreturn void bad_use(const char *name, const char *what)
 static void set_number(const struct option *o, const char *value)
 {
     char what[96];
-    snprintf(what, sizeof what, "wants a number from %" PRIu64 " to %" PRIu64 ", not '%.20s'", o->least, o->most, value);
+    const char *range = o->least + o->step == o->most ? "or" : "to";
+    snprintf(what, sizeof what, "wants a number, %" PRIu64 " %s %" PRIu64 ", not '%.20s'", o->least, range, o->most, value);
     if (value[0] == '\0' || value[strspn(value, "0123456789")] != '\0')
         bad_use(o->name, what);
     errno = 0;
     unsigned long long n = strtoull(value, NULL, 10);
-    if (errno != 0 || n < o->least || n > o->most)
+    if (errno != 0 || n < o->least || n > o->most || (n - o->least) % o->step != 0)
         bad_use(o->name, what);
     *o->number = n;
 }
@@ -67,7 +78,7 @@ static void set(const struct option *o, const char *value)
     if (o->number != NULL)
         set_number(o, value);
     else if (value[0] == '\0')
-        bad_use(o->name, "wants a file's name");
+        bad_use(o->name, "wants a name");
     else
         *o->text = value;
 }
@@ -82,7 +93,9 @@ static const struct option *named(const struct option list[OPTIONS], const char 
 
 struct options read_options(int count, char **argument)
 {
-    struct options o = {.columns = 6, .rows = 4, .loss = 40, .rounds = 150, .seed = 5, .tie = BATMAN_PRESENT_STAYS, .svg = NULL};
+    struct batman_settings usual = BATMAN_SETTINGS_DEFAULT;
+    struct options o = {.yard = {.columns = 6, .rows = 4, .neighbours = RADIO_AROUND, .loss = 20, .seed = 1, .window = usual.window, .tie = usual.tie, .filter = YARD_ALL},
+                        .rounds = 150};
     struct option list[OPTIONS];
     list_options(&o, list);
     for (int i = 1; i < count; i += 2) {

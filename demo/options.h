@@ -2,11 +2,12 @@
 #ifndef OPTIONS_H
 #define OPTIONS_H
 
-#include <stdint.h>
+#include "yard.h"
 
 struct options {
-    uint64_t columns, rows, loss, rounds, seed, tie;
-    const char *svg; /* NULL for no picture */
+    struct yard_settings yard;
+    uint64_t rounds;
+    const char *svg; /* where to draw the yard; NULL for no picture */
 };
 
 /* Ends the program with a word on what was wrong, or with the help. */

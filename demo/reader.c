@@ -16,11 +16,12 @@ static _Noreturn void stop(const struct reader *r, const char *call, uint64_t nu
 bool reader_open(struct reader *r, uint32_t address, struct reader_settings s)
 {
     struct batman_settings settings = BATMAN_SETTINGS_DEFAULT;
-    settings.purge = s.purge;
     settings.capacity = s.capacity;
+    settings.window = s.window;
     settings.tie = s.tie;
     struct batman_interfaces interfaces = {.row = {{.own = address, .broadcast = BROADCAST, .first = s.first}}, .used = 1};
-    *r = (struct reader){.address = address, .count = (size_t)batman_cells_needed(s.capacity)};
+    *r = (struct reader){.address = address, .count = (size_t)batman_cells_needed(s.capacity), .filters = s.filter};
+    relay_filter_clear(&r->filter, settings.window, settings.purge);
     r->cells = calloc(r->count > 0 ? r->count : 1, sizeof *r->cells);
     if (r->cells == NULL)
         return false;
@@ -43,7 +44,7 @@ size_t reader_own(struct reader *r, uint64_t now, const uint8_t *hna, size_t hna
     switch (w.number) {
     case 0: return (size_t)w.length;
     case BATMAN_NOT_WELL_FORMED: /* the table is damaged: a daemon logs it and makes a new one */
-    case BATMAN_NOT_IN_USE: /* the interface is not in use: it was taken down without telling the table */
+    case BATMAN_NOT_IN_USE: /* an interface that make was not given */
     case BATMAN_TIME_BEFORE: /* the clock went back: take a monotonic one */
     case BATMAN_SHORT_OUTPUT: /* the output is too short for these HNA entries */
     case BATMAN_WRONG_SIZE: /* more than 292 HNA entries: announce fewer */
@@ -56,15 +57,19 @@ size_t reader_own(struct reader *r, uint64_t now, const uint8_t *hna, size_t hna
 
 size_t reader_receive(struct reader *r, uint64_t now, uint32_t sender, const uint8_t *packet, size_t length, uint8_t *out, size_t room)
 {
+    if (r->filters && relay_filter_drops(&r->filter, packet, length, now)) { /* what we passed on, come back or by a longer way */
+        r->dropped++;
+        return 0;
+    }
     struct batman_received a = batman_receive(r->cells, r->count, packet, length, sender, INTERFACE, now, out, room);
     if (a.number < READER_ANSWERS)
         r->answers[a.number]++;
     switch (a.number) {
     case BATMAN_NOT_WELL_FORMED: /* the table is damaged: a daemon logs it and makes a new one */
-    case BATMAN_NOT_IN_USE: /* the interface is not in use: close its socket */
+    case BATMAN_NOT_IN_USE: /* an interface that make was not given */
     case BATMAN_TIME_BEFORE: /* the clock went back: take a monotonic one */
-    case BATMAN_SHORT_OUTPUT: /* the output is shorter than the packet: lend 1,472 octets, or as many as the socket gives */
         stop(r, "a received packet", a.number);
+    case BATMAN_SHORT_OUTPUT: /* longer than the output: a stranger's long datagram must end nothing, so lend as much as was read, and drop it */
     case BATMAN_WRONG_SIZE: /* too short or too long for an originator message */
     case BATMAN_WRONG_VERSION: /* another version of the protocol */
     case BATMAN_RAGGED_ENTRIES: /* HNA octets that are no whole entries */
@@ -83,6 +88,8 @@ size_t reader_receive(struct reader *r, uint64_t now, uint32_t sender, const uin
     case BATMAN_KEPT: /* taken: a daemon compares a.route with the kernel's route to the originator, and changes that where they differ */
         return 0;
     case BATMAN_PASSED_ON: /* as 25, and it goes on the air; with more interfaces, on those with a.flags as the copy's octet 1 */
+        if (r->filters)
+            relay_filter_passed_on(&r->filter, out, length, now);
         return length;
     default: /* a number that this header doesn't know */
         stop(r, "a received packet", a.number);

@@ -1,52 +1,16 @@
-/* A yard of label readers on a grid, each with its own table, that find routes to each other over lossy radio: how a daemon uses the library.
- * demo/reader.c is the daemon's part; here are the rounds, and what is printed. */
-#define _POSIX_C_SOURCE 200809L
+#include "yard.h"
 
-#include <errno.h>
 #include <inttypes.h>
 #include <stdio.h>
 #include <stdlib.h>
-#include <string.h>
-#include <unistd.h>
 
-#include "options.h"
-#include "radio.h"
 #include "random.h"
-#include "reader.h"
-#include "svg.h"
 
-enum {
-    GATE = 0,         /* the reader that is wired to the network outside */
-    INTERVAL = 1000,  /* ms from round to round */
-    SWEEP_EVERY = 10, /* rounds */
-    PURGE = 30 * INTERVAL,
-    LINES = 24 /* rounds that are printed of a long run */
-};
+enum { SWEEP_EVERY = 10 }; /* rounds */
 
 static const uint8_t outside[] = {192, 168, 0, 0, 16}; /* what the gate announces: one HNA entry */
 
-/* What happened on the air in one round. */
-struct traffic {
-    unsigned long own, passed_on, heard, lost;
-};
-
-/* Routes known; those that lead to their destination when each reader follows its own; and the hops of these. Where little is lost many links stand
- * level, or nearly, and hops may lead into rings. With newest wins (--tie 0) far more do: a link that draws level with the best takes its place. */
-struct coverage {
-    unsigned long known, arrive, hops;
-};
-
-struct yard {
-    struct options options;
-    unsigned readers;
-    struct reader *reader;
-    struct hop *hop; /* of every reader to every other */
-    struct radio radio;
-    uint64_t now;
-    unsigned long removed; /* originators that sweeps have removed */
-};
-
-static _Noreturn void fail(const char *why)
+void yard_fail(const char *why)
 {
     fprintf(stderr, "yard: %s\n", why);
     exit(EXIT_FAILURE);
@@ -55,257 +19,218 @@ static _Noreturn void fail(const char *why)
 /* ---- readers and their addresses */
 
 /* The reader at column x and row y has the address 10.0.(y + 1).(x + 1). */
-static uint32_t address_of(const struct yard *y, unsigned reader)
+uint32_t yard_address(const struct yard *y, unsigned reader)
 {
-    unsigned columns = (unsigned)y->options.columns;
-    return 0x0a000000u + (reader / columns + 1) * 256 + reader % columns + 1;
+    return 0x0a000000u + (reader / y->grid.columns + 1) * 256 + reader % y->grid.columns + 1;
 }
+
+unsigned yard_gate(const struct yard *y) { return (y->grid.rows - 1) / 2 * y->grid.columns + (y->grid.columns - 1) / 2; }
 
 static unsigned reader_at(const struct yard *y, uint32_t address)
 {
-    return ((address >> 8 & 255) - 1) * (unsigned)y->options.columns + (address & 255) - 1;
+    return ((address >> 8 & 255) - 1) * y->grid.columns + (address & 255) - 1;
 }
 
-struct dotted {
-    char text[16];
-};
-
-static struct dotted dotted(uint32_t a)
+/* Spread evenly over the readers. */
+static bool has_filter(const struct yard *y, unsigned reader)
 {
-    struct dotted d;
-    snprintf(d.text, sizeof d.text, "%u.%u.%u.%u", (unsigned)(a >> 24), (unsigned)(a >> 16 & 255), (unsigned)(a >> 8 & 255), (unsigned)(a & 255));
-    return d;
+    uint64_t share = y->settings.filter;
+    return (reader + 1) * share / YARD_ALL > reader * share / YARD_ALL;
 }
 
-static void open_yard(struct yard *y, struct options o)
+static void open_readers(struct yard *y)
 {
-    *y = (struct yard){.options = o, .readers = (unsigned)(o.columns * o.rows)};
-    y->reader = calloc(y->readers, sizeof *y->reader);
-    y->hop = calloc((size_t)y->readers * y->readers, sizeof *y->hop);
-    if (y->reader == NULL || y->hop == NULL || !radio_open(&y->radio, (unsigned)o.columns, (unsigned)o.rows, (unsigned)o.loss, o.seed))
-        fail("no memory");
     for (unsigned i = 0; i < y->readers; i++) {
-        struct reader_settings s = {.capacity = y->readers > 1 ? y->readers - 1 : 1, .purge = PURGE, .tie = o.tie,
+        struct reader_settings s = {.capacity = y->readers > 1 ? y->readers - 1 : 1,
+                                    .window = y->settings.window,
+                                    .tie = y->settings.tie,
+                                    .filter = has_filter(y, i),
                                     .first = (uint16_t)random_next(&y->radio.random)};
-        if (!reader_open(&y->reader[i], address_of(y, i), s))
-            fail("no memory");
+        if (!reader_open(&y->reader[i], yard_address(y, i), s))
+            yard_fail("no memory");
     }
 }
 
-static void close_yard(struct yard *y)
+void yard_open(struct yard *y, struct yard_settings s)
+{
+    struct radio_grid grid = {.columns = (unsigned)s.columns, .rows = (unsigned)s.rows, .neighbours = (unsigned)s.neighbours};
+    *y = (struct yard){.settings = s, .grid = grid, .readers = grid.columns * grid.rows};
+    y->reader = calloc(y->readers, sizeof *y->reader);
+    y->dead = calloc(y->readers, sizeof *y->dead);
+    y->hop = calloc((size_t)y->readers * y->readers, sizeof *y->hop);
+    if (y->reader == NULL || y->dead == NULL || y->hop == NULL || !radio_open(&y->radio, grid, (unsigned)s.loss, s.seed))
+        yard_fail("no memory");
+    open_readers(y);
+}
+
+void yard_describe(const struct yard *y, char words[YARD_WORDS])
+{
+    const struct yard_settings *s = &y->settings;
+    const char *tie = s->tie == BATMAN_PRESENT_STAYS ? "present link stays" : "newest wins";
+    if (s->filter == 0 || s->filter == YARD_ALL)
+        snprintf(words, YARD_WORDS, "window %" PRIu64 ", %s, %s the relay filter", s->window, tie, s->filter > 0 ? "with" : "without");
+    else
+        snprintf(words, YARD_WORDS, "window %" PRIu64 ", %s, the relay filter in %" PRIu64 " of 100 readers", s->window, tie, s->filter);
+}
+
+void yard_close(struct yard *y)
 {
     for (unsigned i = 0; i < y->readers; i++)
         reader_close(&y->reader[i]);
     radio_close(&y->radio);
     free(y->reader);
+    free(y->dead);
     free(y->hop);
 }
 
 /* ---- a round */
 
-static void transmit(struct yard *y, unsigned sender, const uint8_t *octets, size_t length)
+static void transmit(struct yard *y, uint64_t time, unsigned sender, const uint8_t *octets, size_t length)
 {
-    if (!radio_send(&y->radio, sender, octets, length))
-        fail("no memory for the packets on the air");
+    if (!radio_send(&y->radio, time, sender, octets, length))
+        yard_fail("no memory for the packets on the air");
 }
 
-static void send_own(struct yard *y, struct traffic *t)
+/* A turn is a packet of no octets that waits for its time. */
+static void give_turns(struct yard *y)
 {
-    for (unsigned i = 0; i < y->readers; i++) {
-        uint8_t out[RADIO_OCTETS];
-        size_t announced = i == GATE ? sizeof outside : 0;
-        size_t length = reader_own(&y->reader[i], y->now, outside, announced, out, sizeof out);
-        transmit(y, i, out, length);
-        t->own++;
-    }
+    static const uint8_t none[1];
+    for (unsigned i = 0; i < y->readers; i++)
+        if (!y->dead[i])
+            transmit(y, y->now + random_below(&y->radio.random, YARD_INTERVAL), i, none, 0);
 }
 
-static void hear(struct yard *y, struct traffic *t, const struct transmission *sent, unsigned receiver)
+/* The own packet is written when it goes on the air, and not before: only the last one's echo counts. */
+static void take_turn(struct yard *y, struct yard_traffic *t, struct transmission *turn)
+{
+    size_t announced = turn->sender == yard_gate(y) ? sizeof outside : 0;
+    turn->length = reader_own(&y->reader[turn->sender], turn->time, outside, announced, turn->octets, sizeof turn->octets);
+    t->own++;
+}
+
+static void hear(struct yard *y, struct yard_traffic *t, const struct transmission *sent, unsigned receiver)
 {
     uint8_t out[RADIO_OCTETS];
-    size_t length = reader_receive(&y->reader[receiver], y->now, address_of(y, sent->sender), sent->octets, sent->length, out, sizeof out);
+    uint32_t sender = yard_address(y, sent->sender);
+    size_t length = reader_receive(&y->reader[receiver], sent->time, sender, sent->octets, sent->length, out, sizeof out);
     t->heard++;
     if (length > 0) {
-        transmit(y, receiver, out, length);
+        transmit(y, sent->time + random_below(&y->radio.random, YARD_DELAY + 1), receiver, out, length);
         t->passed_on++;
-    }
-}
-
-/* Every packet on the air reaches those within reach or is lost on the way; what they pass on goes on the air in turn. */
-static void empty_air(struct yard *y, struct traffic *t)
-{
-    struct transmission sent;
-    while (radio_next(&y->radio, &sent)) {
-        const struct radio_station *s = &y->radio.station[sent.sender];
-        for (unsigned i = 0; i < s->links; i++) {
-            if (radio_loses(&y->radio, &s->link[i]))
-                t->lost++;
-            else
-                hear(y, t, &sent, s->link[i].to);
-        }
     }
 }
 
 static void sweep_all(struct yard *y)
 {
     for (unsigned i = 0; i < y->readers; i++)
-        y->removed += reader_sweep(&y->reader[i], y->now);
+        if (!y->dead[i])
+            y->removed += reader_sweep(&y->reader[i], y->now);
 }
 
-static struct traffic play_round(struct yard *y, uint64_t round)
+/* A packet reaches those within reach, or is lost on the way to them. */
+static void on_air(struct yard *y, struct yard_traffic *t, const struct transmission *sent)
 {
-    struct traffic t = {0, 0, 0, 0};
-    y->now += INTERVAL;
-    send_own(y, &t);
-    empty_air(y, &t);
-    if (round % SWEEP_EVERY == 0)
+    const struct radio_station *s = &y->radio.station[sent->sender];
+    for (unsigned i = 0; i < s->links && !y->dead[sent->sender]; i++) {
+        if (radio_loses(&y->radio, &s->link[i]) || y->dead[s->link[i].to])
+            t->lost++;
+        else
+            hear(y, t, sent, s->link[i].to);
+    }
+}
+
+struct yard_traffic yard_round(struct yard *y)
+{
+    struct yard_traffic t = {0, 0, 0, 0};
+    struct transmission sent;
+    give_turns(y);
+    y->now += YARD_INTERVAL;
+    while (radio_next(&y->radio, y->now, &sent)) {
+        if (sent.length == 0)
+            take_turn(y, &t, &sent);
+        on_air(y, &t, &sent);
+    }
+    if (++y->rounds % SWEEP_EVERY == 0)
         sweep_all(y);
     return t;
 }
 
+void yard_kill(struct yard *y, unsigned reader) { y->dead[reader] = true; }
+
 /* ---- what is known */
 
-static struct hop *hop_of(const struct yard *y, unsigned from, unsigned to) { return &y->hop[(size_t)from * y->readers + to]; }
+static struct yard_hop *hop_at(const struct yard *y, unsigned from, unsigned to) { return &y->hop[(size_t)from * y->readers + to]; }
 
-static void ask_all(struct yard *y)
+struct yard_hop yard_hop(const struct yard *y, unsigned from, unsigned to) { return *hop_at(y, from, to); }
+
+static void ask(struct yard *y, unsigned from, unsigned to)
 {
-    for (unsigned from = 0; from < y->readers; from++)
-        for (unsigned to = 0; to < y->readers; to++) {
-            struct batman_route r = reader_route(&y->reader[from], address_of(y, to));
-            struct hop h = {.known = r.window > 0, .to = r.window > 0 ? reader_at(y, r.neighbour) : 0, .count = r.count, .window = r.window};
-            *hop_of(y, from, to) = h;
-        }
+    struct batman_route r = reader_route(&y->reader[from], yard_address(y, to));
+    bool known = r.window > 0;
+    *hop_at(y, from, to) =
+        (struct yard_hop){.end = known ? YARD_RING : YARD_NO_ROUTE, .to = known ? reader_at(y, r.neighbour) : 0, .count = r.count, .window = r.window};
 }
 
-/* The hops from one reader to another by each reader's own route; 0 where they lead into a gap or a ring. */
-static unsigned hops_between(const struct yard *y, unsigned from, unsigned to)
+/* Follows the hops from one reader to another: after as many as there are readers they have come by some reader twice. */
+static void follow(struct yard *y, unsigned from, unsigned to)
 {
-    for (unsigned hops = 1; hops < y->readers; hops++) {
-        const struct hop *h = hop_of(y, from, to);
-        if (!h->known)
-            return 0;
-        if (h->to == to)
-            return hops;
-        from = h->to;
+    struct yard_hop *first = hop_at(y, from, to);
+    unsigned at = from;
+    for (unsigned hops = 1; hops <= y->readers && first->end == YARD_RING; hops++) {
+        const struct yard_hop *h = hop_at(y, at, to);
+        at = h->to;
+        if (h->window == 0 || y->dead[at]) {
+            first->end = YARD_GAP;
+        } else if (at == to) {
+            first->end = YARD_ARRIVES;
+            first->hops = hops;
+        } else {
+            first->in_ring |= at == from;
+        }
     }
-    return 0;
 }
 
-static struct coverage cover(struct yard *y)
+void yard_look(struct yard *y)
 {
-    struct coverage c = {0, 0, 0};
-    ask_all(y);
     for (unsigned from = 0; from < y->readers; from++)
-        for (unsigned to = 0; to < y->readers; to++) {
-            unsigned hops = from != to ? hops_between(y, from, to) : 0;
-            c.known += from != to && hop_of(y, from, to)->known;
-            c.arrive += hops > 0;
-            c.hops += hops;
-        }
+        for (unsigned to = 0; to < y->readers; to++)
+            ask(y, from, to);
+    for (unsigned from = 0; from < y->readers; from++)
+        for (unsigned to = 0; to < y->readers; to++)
+            follow(y, from, to);
+}
+
+struct yard_coverage yard_cover_from(const struct yard *y, unsigned from)
+{
+    struct yard_coverage c = {0, 0, 0, 0, 0, 0};
+    for (unsigned to = 0; to < y->readers; to++) {
+        const struct yard_hop *h = hop_at(y, from, to);
+        if (from == to || y->dead[from] || y->dead[to])
+            continue;
+        c.possible++;
+        c.known += h->end != YARD_NO_ROUTE;
+        c.arrive += h->end == YARD_ARRIVES;
+        c.rings += h->end == YARD_RING;
+        c.shortest += h->end == YARD_ARRIVES && h->hops == radio_distance(y->grid, from, to);
+        c.hops += h->hops;
+    }
     return c;
 }
 
-/* ---- what is printed */
-
-static unsigned long possible(const struct yard *y) { return (unsigned long)y->readers * (y->readers - 1); }
-
-static void print_head(const struct yard *y)
+void yard_add(struct yard_coverage *sum, struct yard_coverage more)
 {
-    const struct options *o = &y->options;
-    printf("%" PRIu64 " x %" PRIu64 " readers, loss %" PRIu64 " of 100, seed %" PRIu64 ", tie %" PRIu64 "; %lu routes are possible\n\n",
-           o->columns, o->rows, o->loss, o->seed, o->tie, possible(y));
-    printf("%6s %8s %10s %9s %9s %9s %9s %10s\n", "round", "own", "passed on", "heard", "lost", "routes", "arrive", "mean hops");
+    sum->possible += more.possible;
+    sum->known += more.known;
+    sum->arrive += more.arrive;
+    sum->rings += more.rings;
+    sum->shortest += more.shortest;
+    sum->hops += more.hops;
 }
 
-static void print_round(uint64_t round, struct traffic t, struct coverage c)
+struct yard_coverage yard_cover(const struct yard *y)
 {
-    printf("%6" PRIu64 " %8lu %10lu %9lu %9lu %9lu %9lu ", round, t.own, t.passed_on, t.heard, t.lost, c.known, c.arrive);
-    if (c.arrive > 0)
-        printf("%10.2f\n", (double)c.hops / (double)c.arrive);
-    else
-        printf("%10s\n", "-");
-}
-
-static void print_answers(const struct yard *y)
-{
-    printf("\nreceived packets by their answer; sweeps removed %lu originators\n", y->removed);
-    for (unsigned n = 1; n < READER_ANSWERS; n++) {
-        unsigned long times = 0;
-        for (unsigned i = 0; i < y->readers; i++)
-            times += y->reader[i].answers[n];
-        if (times > 0)
-            printf("%6u %9lu  %s\n", n, times, reader_meaning(n));
-    }
-}
-
-static void print_routes(const struct yard *y, unsigned from)
-{
-    printf("\nroutes of reader %u, %s\n%-16s %-16s %9s  %s\n", from, dotted(address_of(y, from)).text, "destination", "next hop", "interface", "counted");
-    for (unsigned to = 0; to < y->readers; to++) {
-        struct batman_route r = reader_route(&y->reader[from], address_of(y, to));
-        if (to == from)
-            continue;
-        printf("%-16s ", dotted(address_of(y, to)).text);
-        if (r.window > 0)
-            printf("%-16s %9" PRIu32 "  %" PRIu32 " of %" PRIu32 "\n", dotted(r.neighbour).text, r.interface, r.count, r.window);
-        else
-            printf("no route\n");
-    }
-}
-
-static void draw(const struct yard *y)
-{
-    const struct options *o = &y->options;
-    char title[64], subtitle[128];
-    struct hop *hop = calloc(y->readers, sizeof *hop);
-    if (hop == NULL)
-        fail("no memory for the picture");
-    for (unsigned i = 0; i < y->readers; i++) {
-        hop[i] = *hop_of(y, i, GATE);
-        hop[i].arrives = i != GATE && hops_between(y, i, GATE) > 0;
-    }
-    snprintf(title, sizeof title, "Next hops towards reader %d", GATE);
-    snprintf(subtitle, sizeof subtitle, "%u readers, loss %" PRIu64 " of 100, after %" PRIu64 " rounds, seed %" PRIu64 ", tie %" PRIu64,
-             y->readers, o->loss, o->rounds, o->seed, o->tie);
-    struct drawing d = {(unsigned)o->columns, (unsigned)o->rows, GATE, title, subtitle, hop};
-    bool drawn = svg_draw(o->svg, &d);
-    if (!drawn)
-        fprintf(stderr, "yard: %s: %s\n", o->svg, strerror(errno));
-    free(hop);
-    if (!drawn)
-        exit(EXIT_FAILURE);
-    printf("\ndrawn: %s\n", o->svg);
-}
-
-/* ---- the run */
-
-static void play(struct yard *y)
-{
-    uint64_t rounds = y->options.rounds, every = rounds <= LINES ? 1 : (rounds + LINES - 1) / LINES;
-    bool watched = every > 1 && isatty(STDERR_FILENO);
-    for (uint64_t round = 1; round <= rounds; round++) {
-        struct traffic t = play_round(y, round);
-        if (watched)
-            fprintf(stderr, "round %" PRIu64 " of %" PRIu64 "\r", round, rounds);
-        if (round == 1 || round == rounds || round % every == 0)
-            print_round(round, t, cover(y));
-    }
-    if (watched)
-        fprintf(stderr, "%40s\r", "");
-}
-
-int main(int count, char **argument)
-{
-    struct yard y;
-    open_yard(&y, read_options(count, argument));
-    print_head(&y);
-    play(&y);
-    print_answers(&y);
-    print_routes(&y, y.readers - 1);
-    if (y.options.svg != NULL)
-        draw(&y);
-    close_yard(&y);
-    if (fflush(stdout) != 0)
-        fail("the output can't be written");
-    return EXIT_SUCCESS;
+    struct yard_coverage c = {0, 0, 0, 0, 0, 0};
+    for (unsigned from = 0; from < y->readers; from++)
+        yard_add(&c, yard_cover_from(y, from));
+    return c;
 }
