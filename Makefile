@@ -6,17 +6,25 @@ WARN = -std=c11 -Wall -Wextra -Werror
 ARCHIVE = target/staticlib/libbatman.a
 BUILD = target/c
 SANITIZE = -fsanitize=address,undefined -fno-sanitize-recover=all
-YARD = demo/main.c demo/options.c demo/run.c demo/yard.c demo/reader.c demo/radio.c demo/picture.c demo/svg.c filter/relay_filter.c
+YARD = demo/main.c demo/options.c demo/run.c demo/routes.c demo/yard.c demo/reader.c demo/radio.c demo/picture.c demo/plot.c demo/svg.c filter/relay_filter.c
 PLAYER = tests/player/play.c tests/player/script.c tests/player/words.c tests/player/lent.c
 TESTED = $(CC) $(CFLAGS) $(WARN) $(SANITIZE) -Iinclude -Ifilter
 
-.PHONY: demo test archive c-tests bench
+.PHONY: demo routes test archive c-tests bench
 
 # A yard of readers over lossy radio: prints how their routes form, and draws those to the reader in the middle.
-demo: archive
-	@mkdir -p $(BUILD)
-	@$(CC) $(CFLAGS) $(WARN) -Iinclude -Ifilter $(YARD) $(ARCHIVE) -o $(BUILD)/demo
+demo: $(BUILD)/demo
 	@$(BUILD)/demo --svg target/yard.svg
+
+# The experiment of docs/ROUTES.md, some four minutes: every setting, loss and seed. docs/routes has what it writes; a difference is shown and fails.
+routes: $(BUILD)/demo
+	@$(BUILD)/demo --routes target/routes
+	@diff -r docs/routes target/routes && echo "routes: what docs/routes shows"
+
+.PHONY: $(BUILD)/demo
+$(BUILD)/demo: archive
+	@mkdir -p $(BUILD)
+	@$(CC) $(CFLAGS) $(WARN) -Iinclude -Ifilter $(YARD) $(ARCHIVE) -o $@
 
 # The archive that a C program links: proved first, then compiled. Each function is made to begin on a cache line, so that how fast its loops are does not
 # depend on where a program's linker puts them.
@@ -53,6 +61,9 @@ c-tests:
 	@$(BUILD)/yard --columns 3 --rows 3 --rounds 12 --seed 7 | diff tests/yard.expected - && echo "yard: prints what it should"
 	@$(BUILD)/yard --svg $(BUILD)/yard.svg > $(BUILD)/yard.out && diff docs/yard.svg $(BUILD)/yard.svg
 	@$(BUILD)/yard --svg $(BUILD)/yard.svg --filter 0 > $(BUILD)/yard.out && diff docs/yard-without-filter.svg $(BUILD)/yard.svg && echo "yard: draws what README shows"
+	@$(BUILD)/yard --routes $(BUILD)/routes --advised 1 2> $(BUILD)/routes.log || { cat $(BUILD)/routes.log; exit 1; }
+	@grep '^| present stays, filter' docs/routes/table.md > $(BUILD)/routes/shown
+	@grep '^| present' $(BUILD)/routes/table.md | diff $(BUILD)/routes/shown - && echo "routes: the advised settings give what docs/ROUTES.md shows"
 	@tools/readme-example README.md > $(BUILD)/readme.c
 	@$(TESTED) $(BUILD)/readme.c $(ARCHIVE) -o $(BUILD)/readme
 	@$(BUILD)/readme | diff tests/readme.expected - && echo "README: its example compiles as printed and prints what it says"

@@ -20,7 +20,7 @@ struct option {
     const char **text;          /* or for one that is a text */
 };
 
-enum { OPTIONS = 10 };
+enum { OPTIONS = 13 };
 
 static void list_options(struct options *o, struct option list[OPTIONS])
 {
@@ -36,6 +36,9 @@ static void list_options(struct options *o, struct option list[OPTIONS])
         {"--tie", "N", "0 newest wins, 1 present link stays", BATMAN_NEWEST_WINS, BATMAN_PRESENT_STAYS, 1, &y->tie, NULL},
         {"--filter", "N", "readers of 100 that have the relay filter, 0 to 100", 0, YARD_ALL, 1, &y->filter, NULL},
         {"--svg", "FILE", "draw the next hops towards the gate, the reader in the middle", 0, 0, 1, NULL, &o->svg},
+        {"--routes", "FOLDER", "instead of one run: every setting, loss and seed, with tables and plots in FOLDER", 0, 0, 1, NULL, &o->routes},
+        {"--seeds", "N", "of --routes: seeds 1 to N, 1 to 1000", 1, 1000, 1, &o->seeds, NULL},
+        {"--advised", "N", "of --routes: 1 for the advised settings alone", 0, 1, 1, &o->advised, NULL},
     };
     memcpy(list, all, sizeof all);
 }
@@ -95,7 +98,8 @@ struct options read_options(int count, char **argument)
 {
     struct batman_settings usual = BATMAN_SETTINGS_DEFAULT;
     struct options o = {.yard = {.columns = 6, .rows = 4, .neighbours = RADIO_AROUND, .loss = 20, .seed = 1, .window = usual.window, .tie = usual.tie, .filter = YARD_ALL},
-                        .rounds = 150};
+                        .rounds = 150,
+                        .seeds = 8};
     struct option list[OPTIONS];
     list_options(&o, list);
     for (int i = 1; i < count; i += 2) {
