@@ -76,18 +76,18 @@ size_t reader_receive(struct reader *r, uint64_t now, uint32_t sender, const uin
     case BATMAN_WRONG_MASK: /* a mask above 32, in entry a.place */
         return 0; /* anyone can send such octets: drop them, and log no more than now and then */
     case BATMAN_NEIGHBOURS_FULL: /* 32 neighbours are held: this one stays unidirectional until another falls silent */
-    case BATMAN_ORIGINATORS_FULL: /* the table is full: drop it; a daemon may sweep and try once more, or make a larger table */
+    case BATMAN_ORIGINATORS_FULL: /* the table is full: drop it; a daemon sweeps if it has not for long, or makes a larger table */
     case BATMAN_LINKS_FULL: /* eight other links to this originator are held: one more is not needed */
         return 0;
     case BATMAN_OWN_SENDER: /* our own transmission, heard by ourselves */
     case BATMAN_OWN_BROADCAST: /* no sender has a broadcast address: forged, or a broken network stack */
     case BATMAN_ECHO: /* our last packet came back: from now on this neighbour's link counts as bidirectional */
     case BATMAN_OWN_ORIGINATOR: /* our own packet by a longer way, or an older one */
-    case BATMAN_UNIDIRECTIONAL: /* it came over a link that works in one direction only: it says nothing of a way back */
+    case BATMAN_UNIDIRECTIONAL: /* its sender had it over a link that works in one direction only: it says nothing of a way back */
         return 0;
     case BATMAN_KEPT: /* taken: a daemon compares a.route with the kernel's route to the originator, and changes that where they differ */
         return 0;
-    case BATMAN_PASSED_ON: /* as 25, and it goes on the air; with more interfaces, on those with a.flags as the copy's octet 1 */
+    case BATMAN_PASSED_ON: /* as 25, and it goes on the air; with more interfaces and relay_filter_goes_elsewhere, on those with a.flags as octet 1 */
         if (r->filters)
             relay_filter_passed_on(&r->filter, out, length, now);
         return length;

@@ -1,5 +1,5 @@
 /* One reader's part in the mesh: a table in cells of its own, the relay filter, one interface, and every answer of the library handled.
- * This is what a daemon keeps; radio, rounds and pictures belong to the yard. */
+ * A daemon has sockets, more interfaces and the kernel's routes besides, and goes on where this ends the program: docs/INTEGRATION.md. */
 #ifndef READER_H
 #define READER_H
 

@@ -28,6 +28,9 @@ static bool is_old(const struct relay_filter *f, const struct relay_filter_row *
     return time > r->time && time - r->time > f->purge;
 }
 
+/* It came over a link without a neighbour row. */
+static bool is_unidirectional(const uint8_t *packet) { return (packet[FLAGS_AT] & UNIDIRECTIONAL) != 0; }
+
 /* Modulo 65,536, so that a wrap is a step like any other. */
 static uint16_t distance(uint16_t from, uint16_t to) { return (uint16_t)(to - from); }
 
@@ -82,7 +85,7 @@ bool relay_filter_drops(const struct relay_filter *f, const uint8_t *packet, siz
 
 void relay_filter_passed_on(struct relay_filter *f, const uint8_t *copy, size_t length, uint64_t time)
 {
-    if (length < HEADER_SIZE || (copy[FLAGS_AT] & UNIDIRECTIONAL) != 0)
+    if (length < HEADER_SIZE || is_unidirectional(copy))
         return;
     uint32_t originator = originator_of(copy);
     uint16_t number = number_of(copy);
@@ -99,3 +102,5 @@ void relay_filter_passed_on(struct relay_filter *f, const uint8_t *copy, size_t 
     if (copy[TTL_AT] > *ttl_of(r, number))
         *ttl_of(r, number) = copy[TTL_AT];
 }
+
+bool relay_filter_goes_elsewhere(const uint8_t *copy, size_t length) { return length >= HEADER_SIZE && !is_unidirectional(copy); }

@@ -4,7 +4,7 @@
  * who merely repeats us seems to know a way of its own, and routes run in rings (docs/ROUTES.md). One rule mends that: a received message is dropped if
  * we passed on this originator's number with a TTL above that of the packet.
  *
- * A daemon copies relay_filter.h and relay_filter.c. The memory is fixed, nothing is allocated, and any octets and numbers may be given. It is plain C
+ * A daemon copies relay_filter.h and relay_filter.c, and every node of the mesh has it. The memory is fixed, nothing is allocated, and any octets and numbers may be given. It is plain C
  * with tests (tests/relay_filter.c); the library and what is proved of it know nothing of it. Used by one thread at a time, one for each table. */
 #ifndef RELAY_FILTER_H
 #define RELAY_FILTER_H
@@ -40,7 +40,11 @@ void relay_filter_clear(struct relay_filter *f, uint64_t window, uint64_t purge)
 bool relay_filter_drops(const struct relay_filter *f, const uint8_t *packet, size_t length, uint64_t time);
 
 /* After batman_receive said 26, with the copy in its output and the same time. A copy with U set is not remembered: it came over a link of one direction,
- * by which no route can lead, so a longer way to its originator may be the only one. Those who hear it drop it, so it doesn't come back. */
+ * by which no route can lead, so a longer way to its originator may be the only one. Where it came in, those who hear it drop it. */
 void relay_filter_passed_on(struct relay_filter *f, const uint8_t *copy, size_t length, uint64_t time);
+
+/* After batman_receive said 26: whether the copies for the other interfaces are sent too. Not those of a copy with U set: U is 0 in them, so that nodes
+ * there would take us for a way to the originator, repeat it, and be taken for one by us. */
+bool relay_filter_goes_elsewhere(const uint8_t *copy, size_t length);
 
 #endif

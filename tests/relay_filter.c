@@ -201,6 +201,7 @@ static void short_packets(void)
     for (size_t length = 0; length < HEADER; length++)
         relay_filter_passed_on(&filter, length > 0 ? m.octets : NULL, length, 0);
     check(!relay_filter_drops(&filter, back.octets, HEADER, 0), "a packet that is too short is not remembered");
+    check(!relay_filter_goes_elsewhere(m.octets, HEADER - 1), "nor sent on");
     relay_filter_passed_on(&filter, m.octets, HEADER, 0);
     for (size_t length = 0; length < HEADER; length++)
         check(!relay_filter_drops(&filter, length > 0 ? back.octets : NULL, length, 0), "nor dropped");
@@ -225,6 +226,7 @@ static void one_way_copies(void)
         relay_filter_clear(&filter, 64, PURGE);
         relay_filter_passed_on(&filter, m.octets, HEADER, 0);
         check(drops(&filter, A, 7, 48, 0) == ((flags & U) == 0), "a copy is remembered exactly where U is not set");
+        check(relay_filter_goes_elsewhere(m.octets, HEADER) == ((flags & U) == 0), "and goes out on the other interfaces exactly there");
     }
 }
 
