@@ -51,12 +51,13 @@ enum measure {
     WORST,    /* as ARRIVE, in the worst of these rounds */
     RINGS,    /* of 100 known ones */
     SHORTEST, /* of 100 that arrive */
+    CHANGED,  /* of 100 known ones, next hops that are not those of the round before */
     SENDS,    /* of each message, by each reader */
     MEASURES
 };
 
-static const char *const measure_names[MEASURES] = {"known", "arrive", "worst round", "in rings", "shortest", "sends"};
-static const int measure_digits[MEASURES] = {1, 1, 1, 1, 0, 2};
+static const char *const measure_names[MEASURES] = {"known", "arrive", "worst round", "in rings", "shortest", "changed", "sends"};
+static const int measure_digits[MEASURES] = {1, 1, 1, 1, 0, 1, 2};
 
 struct spread {
     double least, mean, most;
@@ -89,14 +90,16 @@ static struct yard_settings settings_of(const struct options *o, unsigned yard, 
 /* The last third of the rounds is measured: routes have formed by then. */
 static void measure_rounds(struct yard *y, uint64_t rounds, double value[MEASURES])
 {
-    struct yard_coverage sum = {0, 0, 0, 0, 0, 0};
+    struct yard_coverage sum = {0};
     unsigned long own = 0, sent = 0;
+    uint64_t first = rounds - (rounds + 2) / 3;
     value[WORST] = 100;
     for (uint64_t round = 0; round < rounds; round++) {
         struct yard_traffic t = yard_round(y);
-        if (round < rounds - (rounds + 2) / 3)
+        if (round + 1 >= first) /* from the round before on, so that changes are seen */
+            yard_look(y);
+        if (round < first)
             continue;
-        yard_look(y);
         struct yard_coverage c = yard_cover(y);
         double arrive = share(c.arrive, c.known);
         value[WORST] = arrive < value[WORST] ? arrive : value[WORST];
@@ -108,6 +111,7 @@ static void measure_rounds(struct yard *y, uint64_t rounds, double value[MEASURE
     value[ARRIVE] = share(sum.arrive, sum.known);
     value[RINGS] = share(sum.rings, sum.known);
     value[SHORTEST] = share(sum.shortest, sum.arrive);
+    value[CHANGED] = share(sum.changed, sum.known);
     value[SENDS] = (double)sent / (double)own / y->readers;
 }
 
@@ -119,7 +123,7 @@ static const double routes_back = 99; /* so many of 100 known routes arrive agai
 static double arrive_from_neighbours(const struct yard *y, unsigned reader)
 {
     const struct radio_station *s = &y->radio.station[reader];
-    struct yard_coverage sum = {0, 0, 0, 0, 0, 0};
+    struct yard_coverage sum = {0};
     for (unsigned i = 0; i < s->links; i++)
         yard_add(&sum, yard_cover_from(y, s->link[i].to));
     return share(sum.arrive, sum.known);
@@ -267,6 +271,7 @@ static void write_table(const struct options *o)
             "Written by `make routes`: %" PRIu64 " x %" PRIu64 " readers, %" PRIu64 " rounds of which the last third is measured, seeds 1 to %" PRIu64 ", each cell from the least to the most over the seeds.\n"
             "*Half filter*: every second reader has the filter.\n"
             "*Known*: of 100 possible routes. *Arrive*, *in rings*: of 100 known ones; *worst round*: arrive in the worst of the measured rounds. *Shortest*: of 100 that arrive, those with as few hops as the radio allows.\n"
+            "*Changed*: of 100 known ones, those whose next hop is not that of the round before.\n"
             "*Sends*: how often each reader sends each message. *Neighbours again*, *all again*: a reader in the middle dies after these rounds, and so many rounds later %.0f of 100 known routes of its\n"
             "neighbours, and of all readers, arrive.\n",
             o->yard.columns, o->yard.rows, o->rounds, o->seeds, routes_back);

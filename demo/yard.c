@@ -166,9 +166,11 @@ struct yard_hop yard_hop(const struct yard *y, unsigned from, unsigned to) { ret
 static void ask(struct yard *y, unsigned from, unsigned to)
 {
     struct batman_route r = reader_route(&y->reader[from], yard_address(y, to));
-    bool known = r.window > 0;
-    *hop_at(y, from, to) =
-        (struct yard_hop){.end = known ? YARD_RING : YARD_NO_ROUTE, .to = known ? reader_at(y, r.neighbour) : 0, .count = r.count, .window = r.window};
+    struct yard_hop *h = hop_at(y, from, to), before = *h;
+    *h = (struct yard_hop){.end = YARD_NO_ROUTE};
+    if (r.window > 0)
+        *h = (struct yard_hop){.end = YARD_RING, .to = reader_at(y, r.neighbour), .count = r.count, .window = r.window};
+    h->changed = before.window > 0 && h->window > 0 && before.to != h->to;
 }
 
 /* Follows the hops from one reader to another: after as many as there are readers they have come by some reader twice. */
@@ -202,7 +204,7 @@ void yard_look(struct yard *y)
 
 struct yard_coverage yard_cover_from(const struct yard *y, unsigned from)
 {
-    struct yard_coverage c = {0, 0, 0, 0, 0, 0};
+    struct yard_coverage c = {0};
     for (unsigned to = 0; to < y->readers; to++) {
         const struct yard_hop *h = hop_at(y, from, to);
         if (from == to || y->dead[from] || y->dead[to])
@@ -212,6 +214,7 @@ struct yard_coverage yard_cover_from(const struct yard *y, unsigned from)
         c.arrive += h->end == YARD_ARRIVES;
         c.rings += h->end == YARD_RING;
         c.shortest += h->end == YARD_ARRIVES && h->hops == radio_distance(y->grid, from, to);
+        c.changed += h->changed;
         c.hops += h->hops;
     }
     return c;
@@ -224,12 +227,13 @@ void yard_add(struct yard_coverage *sum, struct yard_coverage more)
     sum->arrive += more.arrive;
     sum->rings += more.rings;
     sum->shortest += more.shortest;
+    sum->changed += more.changed;
     sum->hops += more.hops;
 }
 
 struct yard_coverage yard_cover(const struct yard *y)
 {
-    struct yard_coverage c = {0, 0, 0, 0, 0, 0};
+    struct yard_coverage c = {0};
     for (unsigned from = 0; from < y->readers; from++)
         yard_add(&c, yard_cover_from(y, from));
     return c;

@@ -32,6 +32,7 @@ enum yard_end {
 struct yard_hop {
     enum yard_end end;
     bool in_ring;           /* on a ring itself; else its hops may still lead into one */
+    bool changed;           /* another next reader than yard_look found before */
     unsigned to, hops;      /* the next reader; all hops where they arrive */
     unsigned count, window; /* of the link to it */
 };
@@ -42,9 +43,9 @@ struct yard_traffic {
 };
 
 /* Of the routes between readers that live: those known, those that arrive, those that lead into a ring, those that arrive by as few hops as the radio
- * allows, and the hops of all that arrive. */
+ * allows, those whose next hop has changed, and the hops of all that arrive. */
 struct yard_coverage {
-    unsigned long possible, known, arrive, rings, shortest, hops;
+    unsigned long possible, known, arrive, rings, shortest, changed, hops;
 };
 
 struct yard {
