@@ -55,9 +55,9 @@ enum batman_verdict {
     BATMAN_OWN_BROADCAST = 21,    /* the sender is one of our broadcast addresses */
     BATMAN_ECHO = 22,             /* the echo of our last packet: its link is bidirectional */
     BATMAN_OWN_ORIGINATOR = 23,   /* our own packet, but no such echo */
-    BATMAN_UNIDIRECTIONAL = 24,   /* its U flag is set: it came over a link of one direction */
-    BATMAN_KEPT = 25,             /* taken, and not passed on */
-    BATMAN_PASSED_ON = 26         /* taken, and passed on: the copy for the receiving interface is in the output */
+    BATMAN_UNIDIRECTIONAL = 24,   /* its U flag is set: its sender had it over a link of one direction */
+    BATMAN_KEPT = 25,             /* counted or not, and not passed on */
+    BATMAN_PASSED_ON = 26         /* counted or not, and passed on: the copy for the receiving interface is in the output */
 };
 
 /* ---- what is lent
@@ -88,7 +88,7 @@ static inline uint64_t batman_refusal_place(uint64_t answer) { return answer / 2
 /* A link on which a message was counted becomes best where its count is above every other link's. Where it is level with the highest of them: */
 enum batman_tie {
     BATMAN_NEWEST_WINS = 0,  /* it becomes best too: among equally good links the route jumps with every message */
-    BATMAN_PRESENT_STAYS = 1 /* the link that is best stays best */
+    BATMAN_PRESENT_STAYS = 1 /* the link that is best stays best, until another is above */
 };
 
 /* What a table is made with. Values that are not allowed are refused by 12. Take BATMAN_SETTINGS_DEFAULT and change what you want: a member that an
