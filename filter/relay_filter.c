@@ -3,7 +3,7 @@
 #include <string.h>
 
 /* Where a message's fields stand, high octet first; and the bit of the flags that says that it came over a link of one direction. */
-enum { FLAGS_AT = 1, TTL_AT = 2, NUMBER_AT = 4, ORIGINATOR_AT = 8, HEADER_SIZE = 12, UNIDIRECTIONAL = 128 };
+enum { FLAGS_AT = 1, TTL_AT = 2, NUMBER_AT = 4, ORIGINATOR_AT = 8, UNIDIRECTIONAL = 128 };
 
 static uint16_t number_of(const uint8_t *packet) { return (uint16_t)(packet[NUMBER_AT] << 8 | packet[NUMBER_AT + 1]); }
 
@@ -72,7 +72,7 @@ void relay_filter_clear(struct relay_filter *f, uint64_t window, uint64_t purge)
 
 bool relay_filter_drops(const struct relay_filter *f, const uint8_t *packet, size_t length, uint64_t time)
 {
-    if (length < HEADER_SIZE)
+    if (length < BATMAN_HEADER_SIZE)
         return false; /* batman_receive refuses it */
     unsigned i = row_of(f, originator_of(packet));
     if (i == f->used)
@@ -85,7 +85,7 @@ bool relay_filter_drops(const struct relay_filter *f, const uint8_t *packet, siz
 
 void relay_filter_passed_on(struct relay_filter *f, const uint8_t *copy, size_t length, uint64_t time)
 {
-    if (length < HEADER_SIZE || is_unidirectional(copy))
+    if (length < BATMAN_HEADER_SIZE || is_unidirectional(copy))
         return;
     uint32_t originator = originator_of(copy);
     uint16_t number = number_of(copy);
@@ -103,4 +103,4 @@ void relay_filter_passed_on(struct relay_filter *f, const uint8_t *copy, size_t 
         *ttl_of(r, number) = copy[TTL_AT];
 }
 
-bool relay_filter_goes_elsewhere(const uint8_t *copy, size_t length) { return length >= HEADER_SIZE && !is_unidirectional(copy); }
+bool relay_filter_goes_elsewhere(const uint8_t *copy, size_t length) { return length >= BATMAN_HEADER_SIZE && !is_unidirectional(copy); }

@@ -13,9 +13,11 @@
 #include <stddef.h>
 #include <stdint.h>
 
+#include "batman.h"
+
 enum {
-    RELAY_FILTER_ORIGINATORS = 256, /* originators remembered, as many as the largest table holds */
-    RELAY_FILTER_NUMBERS = 64       /* sequence numbers remembered of each, as many as the largest window has */
+    RELAY_FILTER_ORIGINATORS = BATMAN_CAPACITY_MOST, /* originators remembered, as many as the largest table holds */
+    RELAY_FILTER_NUMBERS = 64                        /* sequence numbers remembered of each, as many as the largest window has */
 };
 
 /* What was passed on of one originator. */
