@@ -19,7 +19,7 @@ demo: $(BUILD)/demo
 # The experiment of docs/ROUTES.md, some four minutes: every setting, loss and seed. docs/routes has what it writes; a difference is shown and fails.
 routes: $(BUILD)/demo
 	@$(BUILD)/demo --routes target/routes
-	@diff -r docs/routes target/routes && echo "routes: what docs/routes shows"
+	@diff -r docs/routes target/routes && echo "routes: what docs/routes shows" || { echo "error: docs/routes shows other figures; if these are meant, copy target/routes there and mend docs/ROUTES.md"; exit 1; }
 
 .PHONY: $(BUILD)/demo
 $(BUILD)/demo: archive
@@ -63,7 +63,8 @@ c-tests:
 	@$(BUILD)/yard --svg $(BUILD)/yard.svg --filter 0 > $(BUILD)/yard.out && diff docs/yard-without-filter.svg $(BUILD)/yard.svg && echo "yard: draws what README shows"
 	@$(BUILD)/yard --routes $(BUILD)/routes --advised 1 2> $(BUILD)/routes.log || { cat $(BUILD)/routes.log; exit 1; }
 	@grep '^| present stays, filter' docs/routes/table.md > $(BUILD)/routes/shown
-	@grep '^| present' $(BUILD)/routes/table.md | diff $(BUILD)/routes/shown - && echo "routes: the advised settings give what docs/ROUTES.md shows"
+	@grep '^| present' $(BUILD)/routes/table.md | diff $(BUILD)/routes/shown - && echo "routes: the advised settings give what docs/ROUTES.md shows" \
+	    || { echo "error: docs/routes/table.md has other figures; make routes writes all of them anew"; exit 1; }
 	@tools/readme-example README.md > $(BUILD)/readme.c
 	@$(TESTED) $(BUILD)/readme.c $(ARCHIVE) -o $(BUILD)/readme
 	@$(BUILD)/readme | diff tests/readme.expected - && echo "README: its example compiles as printed and prints what it says"

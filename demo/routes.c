@@ -283,6 +283,8 @@ static void write_table(const struct options *o)
 
 /* ---- the plots */
 
+_Static_assert((int)LINES <= (int)PLOT_LINES && (int)DYING_ROUNDS <= (int)PLOT_POINTS, "a plot has room for every line and point");
+
 static struct plot_line *add_line(struct plot *p, const struct line *l)
 {
     struct plot_line *drawn = &p->line[p->lines++];
