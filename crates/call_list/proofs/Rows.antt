@@ -1,14 +1,15 @@
--- Rows written one after the other, and the rows of a record's links. Assumes nothing.
-use Prim.Native.Nat.{ℕ, suc, _+_, _≤_, _<_}
+-- The rows of a record's links. Assumes nothing.
+use Prim.Native.Nat.{ℕ, _+_, _≤_, _<_}
 use native.Mathlib.Numerals.{add-one}
 use native.Mathlib.Omega.{arith}
 use mathlib.Core.Path.{_≡_, refl, sym, ap, _∙_}
-use mathlib.Core.List.{List, [], map, append-assoc}
+use mathlib.Core.List.{List, [], map}
 use mathlib.Core.Option.{some}
 use lib.ListN.{length, getD, set, take, drop, replicate, length-map, List·getD-map}
-use lib.Seq.{take-suc, drop-cons, set-at, take-at, take-all, length-take-le, length-front}
+use lib.Seq.{take-at, take-all}
 use Rattle.lists.specs.Lists.{writtenTo}
 use Rattle.lists.proofs.Lists.{map-map}
+use Rattle.lists.proofs.Written.{written-more}
 use Rattle.window.specs.Window.{count}
 use Rattle.rules.specs.declared.LinkRow.{LinkRow}
 use Rattle.rules.specs.Settings.{Config, linkMost}
@@ -18,23 +19,6 @@ use Rattle.table_record.specs.Links.{linkIn, linkAt}
 use Rattle.table_record.specs.Record.{linksAt, bestAt, linksPart, linksOf, decodeRecord}
 use Rattle.table_record.proofs.Links.{length-links, link-of}
 use Rattle.call_list.specs.Listing.{zeroRow, rowOf, Listable, Finds}
-
--- ---- rows written at the start of a lent list
-
-module _ {A : Type 0} (from ys : List A) (i : ℕ) where
-  pub length-written : i ≤ length from → i ≤ length ys → length (writtenTo (take i from) ys) ≡ length ys
-  unfolding writtenTo
-  length-written hf hy =
-      let l : length (take i from) ≡ i = length-take-le i from hf in
-      rw l (length-front ys (take i from) i (l ∙ sym (length-take-le i ys hy)))
-
-  -- with i of them written, the next is written
-  pub written-more : (d : A) → i < length from → i < length ys → set (writtenTo (take i from) ys) i (getD from i d) ≡ writtenTo (take (suc i) from) ys
-  unfolding writtenTo
-  written-more d hf hy =
-      let l : length (take i from) ≡ i = length-take-le i from (omega arith) in
-      let m : length (take (suc i) from) ≡ suc i = length-take-le (suc i) from hf in
-      rw (m, l, take-suc from i d hf, append-assoc, drop-cons ys i d hy) (set-at (take i from) (getD ys i d) (drop (suc i) ys) (getD from i d) i l)
 
 -- ---- the rows of a record's links
 

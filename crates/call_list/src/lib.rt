@@ -20,7 +20,7 @@ ghost use mathlib.Core.Path.{_≡_};
 ghost use mathlib.Core.Bool.{cond};
 ghost use mathlib.Core.Option.{some};
 ghost use Prim.Native.Nat.{_≤_, _<_};
-ghost use lib.ListN.{length, take, getD};
+ghost use lib.ListN.{length, take};
 ghost use Rattle.lists.specs.Lists.{writtenTo};
 ghost use Rattle.lists.specs.Keyed.{lookup};
 ghost use Rattle.window.specs.Marks.{wordOf};
@@ -128,14 +128,6 @@ pub fn links_of(cells: &[u64], originator: u32, room: usize) -> Links
     got
 }
 
-// The row at place i.
-fn row_at(got: Links, i: usize) -> LinkRow
-    requires { ⌜ i < linkMost ⌝ }
-    ensures { λ r. ⌜ r ≡ getD (got .rows) i zeroRow ⌝ }
-{
-    got.rows[i]
-}
-
 // Writes the rows found at the start of the caller's, in order. Further rows stay as they are.
 pub fn fill_rows(rows: &mut [LinkRow], got: Links)
     requires { ⌜ (got .n ≤ linkMost) × (got .n ≤ length (now rows)) ⌝ }
@@ -143,7 +135,7 @@ pub fn fill_rows(rows: &mut [LinkRow], got: Links)
 {
     let mut i = 0;
     while i < got.n {
-        rows[i] = row_at(got, i);
+        rows[i] = got.rows[i];
         i += 1;
     }
 }

@@ -2,14 +2,15 @@
 use mathlib.Core.Path.{_≡_, refl}
 use mathlib.Core.Bool.{true, _&&_}
 use mathlib.Core.Option.{Option, some}
-use mathlib.Core.List.{List, [], _∷_}
-use Prim.Native.Nat.{ℕ, suc, _≤_, _<_}
+use mathlib.Core.List.{List}
+use Prim.Native.Nat.{ℕ, _≤_, _<_}
 use native.Mathlib.Omega.{arith}
 use borrow.Author.Tests.{lt-ltb, le-ltb}
 use lib.Dec.{ltb}
 use lib.ListN.{length, getD}
 use Rattle.lists.specs.Lists.{all}
 use Rattle.lists.proofs.Tests.{both}
+use Rattle.lists.proofs.Lists.{all-below}
 use Rattle.wire.specs.declared.Fault.{Fault}
 use Rattle.wire.specs.Check.{numbered, packetFault}
 use Rattle.rules.specs.Settings.{octets, addresses, isAddress, isOctet, isTime}
@@ -20,12 +21,8 @@ use Rattle.table_layout.specs.Cells.{decode}
 use Rattle.table_changes.proofs.Values.{used-read}
 use Rattle.call_receive_arrival.specs.Receiving.{argsOf}
 
-pub octets-of : (p : List ℕ) → ((k : ℕ) → getD p k 0 < octets) → all isOctet p ≡ true
-octets-of [] f = refl
-octets-of (x ∷ p) f = both (lt-ltb x octets (f 0)) (octets-of p (λ k. f (suc k)))
-
 pub typed-of : (p : List ℕ) (a t : ℕ) → a < addresses → ((k : ℕ) → getD p k 0 < octets) → t < 18446744073709551616 → (isAddress a && (all isOctet p && (isTime t && true))) ≡ true
-typed-of p a t ha hp ht = both (lt-ltb a addresses ha) (both (octets-of p hp) (both (lt-ltb t 18446744073709551616 ht) refl))
+typed-of p a t ha hp ht = both (lt-ltb a addresses ha) (both (all-below octets p hp) (both (lt-ltb t 18446744073709551616 ht) refl))
 
 -- ---- the first refusal of cells c and a packet p from a by interface i at time t, with the output o
 

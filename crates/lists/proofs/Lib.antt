@@ -3,3 +3,4 @@ pub mod Tests
 pub mod Lists
 pub mod Keyed
 pub mod Rising
+pub mod Written

@@ -1,13 +1,15 @@
--- Laws of `keep`, `all`, `map` and `elem`.
-use Prim.Native.Nat.{ℕ, suc, _≤_}
+-- Laws of `keep`, `all`, `map`, `elem` and `sum`.
+use Prim.Native.Nat.{ℕ, zero, suc, _+_, _≤_, _<_}
 use mathlib.Core.Path.{_≡_, refl, sym, ap, ap₂, _∙_}
 use mathlib.Core.Bool.{Bool, true, false, cond, _&&_, _||_, not, and-false, and-comm, and-assoc, or-assoc}
 use mathlib.Core.List.{List, [], _∷_, _++_, map}
-use lib.Dec.{eqb}
-use lib.ListN.{length}
+use lib.Dec.{ltb, eqb}
+use lib.ListN.{length, getD, take, drop}
+use lib.Seq.{drop-cons}
+use native.Mathlib.Numerals.{add-one}
 use native.Mathlib.Omega.{arith}
-use borrow.Author.Tests.{eqb-true}
-use Rattle.lists.specs.Lists.{keep, all, elem}
+use borrow.Author.Tests.{eqb-true, lt-ltb}
+use Rattle.lists.specs.Lists.{keep, all, elem, sum}
 use Rattle.lists.proofs.Tests.{by-test, cond-ap, both, and-left, and-right}
 
 module _ {A : Type 0} where
@@ -50,6 +52,16 @@ module _ {A : Type 0} where
   pub all-same : (p q : A → Bool) → ((x : A) → p x ≡ q x) → (xs : List A) → all p xs ≡ all q xs
   all-same p q h [] = refl
   all-same p q h (x ∷ xs) = ap₂ (λ (s t : Bool). s && t) (h x) (all-same p q h xs)
+
+  pub all-take : (p : A → Bool) (n : ℕ) (xs : List A) → all p xs ≡ true → all p (take n xs) ≡ true
+  all-take p zero xs h = refl
+  all-take p (suc n) [] h = refl
+  all-take p (suc n) (x ∷ xs) h = both (and-left (p x) (all p xs) h) (all-take p n xs (and-right (p x) (all p xs) h))
+
+  pub all-drop : (p : A → Bool) (n : ℕ) (xs : List A) → all p xs ≡ true → all p (drop n xs) ≡ true
+  all-drop p zero xs h = h
+  all-drop p (suc n) [] h = refl
+  all-drop p (suc n) (x ∷ xs) h = all-drop p n xs (and-right (p x) (all p xs) h)
 
   pub all-append : (p : A → Bool) (xs ys : List A) → all p (xs ++ ys) ≡ (all p xs && all p ys)
   all-append p [] ys = refl
@@ -166,3 +178,18 @@ all-elem p (x ∷ xs) h k e = go (eqb k x) refl e (all-elem p xs (and-right (p x
     go : (t : Bool) → eqb k x ≡ t → (t || elem k xs) ≡ true → (elem k xs ≡ true → p k ≡ true) → p k ≡ true
     go true q r f = ap p (eqb-true k x q) ∙ and-left (p x) (all p xs) h
     go false q r f = f r
+
+-- numbers of which each is below a bound
+pub all-below : (n : ℕ) (xs : List ℕ) → ((k : ℕ) → getD xs k 0 < n) → all (λ x. ltb x n) xs ≡ true
+all-below n [] f = refl
+all-below n (x ∷ xs) f = both (lt-ltb x n (f 0)) (all-below n xs (λ k. f (suc k)))
+
+-- ---- sum
+
+pub sum-drop : (ns : List ℕ) (i : ℕ) → i < length ns → sum (drop i ns) ≡ getD ns i 0 + sum (drop (i + 1) ns)
+sum-drop ns i h = rw (add-one, drop-cons ns i 0)
+
+pub sum-rest : (ns : List ℕ) (i : ℕ) → sum (drop i ns) ≤ sum ns
+sum-rest ns zero = omega arith
+sum-rest [] (suc i) = omega arith
+sum-rest (n ∷ ns) (suc i) = let h = sum-rest ns i in omega arith

@@ -1,5 +1,5 @@
 -- Lists and what may be missing. A test is a function to Bool.
-use Prim.Native.Nat.{ℕ}
+use Prim.Native.Nat.{ℕ, _+_}
 use mathlib.Core.Bool.{Bool, true, false, cond, _&&_, _||_}
 use mathlib.Core.Option.{Option, none, some}
 use mathlib.Core.List.{List, [], _∷_, _++_}
@@ -30,6 +30,11 @@ all p (x ∷ xs) = p x && all p xs
 abbrev pub elem : ℕ → List ℕ → Bool
 elem k [] = false
 elem k (x ∷ xs) = eqb k x || elem k xs
+
+-- the sum of the numbers
+abbrev pub sum : List ℕ → ℕ
+sum [] = 0
+sum (x ∷ xs) = x + sum xs
 
 -- what a lent list holds once xs is written at its start: the rest is untouched
 unfoldable pub writtenTo : {A : Type 0} → List A → List A → List A
