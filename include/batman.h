@@ -26,6 +26,7 @@ enum batman_limit {
     BATMAN_INTERFACES = 4,        /* interface rows given to make */
     BATMAN_NEIGHBOURS_MOST = 32,  /* neighbour rows held */
     BATMAN_LINKS_MOST = 8,        /* links held of one originator */
+    BATMAN_PACKETS_MOST = 32,     /* packets of a burst */
     BATMAN_CAPACITY_MOST = 256,   /* originators held */
     BATMAN_TABLE_CELLS = 94,      /* cells of a table before its records */
     BATMAN_RECORD_CELLS = 22,     /* cells of a record, one for each originator of the capacity */
@@ -46,7 +47,8 @@ enum batman_refusal {
     BATMAN_ORIGINATORS_FULL = 10, /* as many originators as the capacity are held and another would be needed */
     BATMAN_LINKS_FULL = 11,       /* more than 8 links of the originator would be held */
     BATMAN_NOT_ALLOWED = 12,      /* a setting, an interface row or the number of cells is not allowed */
-    BATMAN_TTL_TOO_LOW = 13       /* an own packet's TTL is below 2 */
+    BATMAN_TTL_TOO_LOW = 13,      /* an own packet's TTL is below 2 */
+    BATMAN_WRONG_BURST = 14       /* a burst's lists differ in length, its lengths don't add up to its octets, it has more than 32 packets, or fewer rows than packets */
 };
 
 /* What a received packet that is not refused gets: the first that applies, in this order. */
@@ -62,8 +64,8 @@ enum batman_verdict {
 
 /* ---- what is lent
  *
- * Each buffer of a call is a pointer and how many elements it has. The pointer is aligned for them (8 octets for cells, 4 for rows, any for
- * packets, HNA octets and outputs); with length 0 it may be anything, NULL too. Buffers of one call must not overlap, packet and output among them. */
+ * Each buffer of a call is a pointer and how many elements it has. The pointer is aligned for them (8 octets for cells, lengths,
+ * interfaces and answer rows, 4 for senders and link rows, any for packets, HNA octets and outputs); with length 0 it may be anything, NULL too. Buffers of one call must not overlap, packet and output among them. */
 
 /* Checks a received packet, before anything else is done with it.
  *
@@ -128,6 +130,11 @@ struct batman_received {
     struct batman_route route; /* to the packet's originator, as the call leaves the table */
 };
 
+struct batman_burst {
+    uint64_t number;
+    uint64_t written; /* how many octets of the output were written */
+};
+
 struct batman_written {
     uint64_t number, place;
     uint64_t length;   /* how many octets were written */
@@ -167,6 +174,19 @@ uint64_t batman_make(uint64_t *cells, size_t count, struct batman_settings setti
  * gets 4 from a shorter output. Read datagrams into BATMAN_READ_SIZE octets, lend an output of as many, and drop what gets 4. */
 struct batman_received batman_receive(uint64_t *cells, size_t count, const uint8_t *packet, size_t length, uint32_t sender,
                                       uint64_t interface, uint64_t time, uint8_t *output, size_t room);
+
+/* Takes up to 32 received packets in one call, which checks the table once. They stand one after another in `octets`, which has `length` octets in
+ * all; of each packet `lengths` has how many octets it has, `senders` who sent it and `interfaces` by which interface it was heard, all at `time`.
+ * Each list has a number of members of its own: they must be the same, and the lengths must add up to `length`. `answers` are rows for the answers, `rows`
+ * of them, no fewer than packets. Refused by 1, and then by 14; nothing is changed.
+ * Otherwise it does what batman_receive does with each packet in turn, given the rest of the output from where the copy before it ended: row i is
+ * the answer to packet i, refusals among them, and where it is 26 that packet's copy stands behind those of the packets before it. A packet that is refused
+ * doesn't stop those after it. Further rows, and the output behind what is written, are left as they are; a burst of no packets changes nothing.
+ * With an output of as many octets as `octets` no packet gets 4. */
+struct batman_burst batman_receive_burst(uint64_t *cells, size_t count, const uint8_t *octets, size_t length, const uint64_t *lengths,
+                                         size_t lengths_count, const uint32_t *senders, size_t senders_count, const uint64_t *interfaces,
+                                         size_t interfaces_count, uint64_t time, uint8_t *output, size_t room, struct batman_received *answers,
+                                         size_t rows);
 
 /* Writes an interface's next own packet at the start of the output, and nothing behind it. Refused by 1 to 5, 7, 8 and 13.
  * `hna` are the octets after the packet's first 12, `hna_length` of them; `room` is how many octets the output has. */

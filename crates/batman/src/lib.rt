@@ -1,5 +1,6 @@
 // The C interface: each function here is exported from the archive, and none has a `requires`.
 use rules::Asked;
+use rules::Burst;
 use rules::Interface;
 use rules::LinkRow;
 use rules::Listed;
@@ -13,6 +14,7 @@ ghost use Rattle.rules.specs.Calls as C;
 ghost use Rattle.table_layout.specs.Calls.{Promised};
 ghost use Rattle.call_make.specs.Make.{makeArgs, neededFor};
 ghost use Rattle.call_receive_arrival.specs.Receiving.{argsOf};
+ghost use Rattle.call_burst.specs.Bursts.{burstArgs};
 ghost use Rattle.call_own_packet_checks.specs.OwnPacket.{args};
 
 // The interface rows as C passes them: an array can't be a parameter there.
@@ -60,6 +62,29 @@ pub extern "C" fn batman_receive(
     ensures { λ r. ⌜ Promised (now (cells .entry)) (C.receive (argsOf (now (packet .entry)) sender interface time (now (out .entry)))) (C.answeredWriting (C.received r) (now (out .exit))) (now (cells .exit)) ⌝ }
 {
     call_receive::receive(cells, packet, sender, interface, time, out)
+}
+
+// Judges the packets of a burst one after the other, as `batman_receive` does, after one check of the table.
+#[no_mangle]
+pub extern "C" fn batman_receive_burst(
+    cells: &mut [u64],
+    octets: &[u8],
+    lengths: &[u64],
+    senders: &[u32],
+    interfaces: &[u64],
+    time: u64,
+    out: &mut [u8],
+    answers: &mut [Received],
+) -> Burst
+    ensures { λ r. ⌜ Promised (now (cells .entry)) (C.burst (burstArgs (now (octets .entry)) (now (lengths .entry)) (now (senders .entry)) (now (interfaces .entry)) time (now (out .entry)) (now (answers .entry)))) (C.answeredEach (C.burstReceived r) (now (out .exit)) (now (answers .exit))) (now (cells .exit)) ⌝ }
+{
+    let room = answers.len();
+    let got = call_burst::burst(cells, octets, lengths, senders, interfaces, time, out, room);
+    call_burst_rows::fill_answers(answers, got);
+    Burst {
+        number: got.number,
+        written: got.written,
+    }
 }
 
 // Writes an interface's next own packet at the start of the output.

@@ -13,7 +13,7 @@ use Rattle.lists.proofs.Tests.{both}
 use Rattle.wire.specs.declared.Fault.{Fault}
 use Rattle.wire.specs.Check.{numbered, given, firstOf}
 use Rattle.rules.specs.Settings.{MakeArgs, makeAllowed}
-use Rattle.rules.specs.Calls.{Call, make, receive, own, sweep, question, list, numberOf, isRefusal, isRuleRefusal, refusalMost, refusal}
+use Rattle.rules.specs.Calls.{Call, make, receive, burst, own, sweep, question, list, numberOf, isRefusal, isRuleRefusal, refusalMost, refusal}
 use Rattle.rules.specs.Rules.{OutcomeOf}
 use Rattle.rules.specs.Table.{table}
 use Rattle.rules.specs.Refusals.{facts, Exactly}
@@ -23,7 +23,7 @@ use Rattle.table_layout.specs.Cells.{encode, decode, wellFormed}
 use Rattle.table_layout.specs.Calls.{Done, refused, stepped, makeOf, meets, callOn}
 use Rattle.table_layout.proofs.Encoding.{laws}
 use Rattle.table_layout.proofs.Calls.{goes-on, turned-away}
-use Rattle.demands.specs.Demand1.{factsOn, lentOutput, lentRows, Refused, Accepted, Demand1}
+use Rattle.demands.specs.Demand1.{factsOn, lentOutput, lentRows, lentAnswers, Refused, Accepted, Demand1}
 
 -- ---- a refusal answers its number, and leaves what the call is lent
 
@@ -31,15 +31,17 @@ record Leaves (call : Call) (f : Fault) : Type 0 where
   number : numberOf (refusal call f .answer) ≡ f .number
   output : refusal call f .output ≡ lentOutput call
   rows : refusal call f .rows ≡ lentRows call
+  answers : refusal call f .answers ≡ lentAnswers call
 
 leaves : (call : Call) (f : Fault) → Leaves call f
 unfolding refusal
-leaves (make a) f = record { number = refl; output = refl; rows = refl }
-leaves (receive r) f = record { number = refl; output = refl; rows = refl }
-leaves (own a) f = record { number = refl; output = refl; rows = refl }
-leaves (sweep t) f = record { number = refl; output = refl; rows = refl }
-leaves (question o) f = record { number = refl; output = refl; rows = refl }
-leaves (list o rs) f = record { number = refl; output = refl; rows = refl }
+leaves (make a) f = record { number = refl; output = refl; rows = refl; answers = refl }
+leaves (receive r) f = record { number = refl; output = refl; rows = refl; answers = refl }
+leaves (burst a) f = record { number = refl; output = refl; rows = refl; answers = refl }
+leaves (own a) f = record { number = refl; output = refl; rows = refl; answers = refl }
+leaves (sweep t) f = record { number = refl; output = refl; rows = refl; answers = refl }
+leaves (question o) f = record { number = refl; output = refl; rows = refl; answers = refl }
+leaves (list o rs) f = record { number = refl; output = refl; rows = refl; answers = refl }
 
 -- a refusal of the rules is a refusal
 rule-refusal : (n : ℕ) → isRuleRefusal n ≡ true → isRefusal n ≡ true
@@ -60,6 +62,7 @@ module _ (c : List ℕ) (call : Call) where
         reply = ap (λ (d : Done). d .reply) e;
         output = ap (λ (d : Done). d .reply .output) e ∙ l .output;
         rows = ap (λ (d : Done). d .reply .rows) e ∙ l .rows;
+        answers = ap (λ (d : Done). d .reply .answers) e ∙ l .answers;
         cells = ap (λ (d : Done). d .cells) e;
       }
 
@@ -117,6 +120,7 @@ module _ (c : List ℕ) (call : Call) (o : makeOf call ≡ none) where
 pub demand1 : (c : List ℕ) (call : Call) → Demand1 c call
 demand1 c (make a) = of-make c a (makeAllowed (length c) a) refl
 demand1 c (receive r) = of-other c (receive r) refl (wellFormed c) refl
+demand1 c (burst a) = of-other c (burst a) refl (wellFormed c) refl
 demand1 c (own a) = of-other c (own a) refl (wellFormed c) refl
 demand1 c (sweep t) = of-other c (sweep t) refl (wellFormed c) refl
 demand1 c (question o) = of-other c (question o) refl (wellFormed c) refl

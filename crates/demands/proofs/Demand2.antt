@@ -1,4 +1,4 @@
--- What a receive and an own packet that are not refused leave: shown of the rules' outcome, and carried to the cells, which hold the table that it has.
+-- What a receive, a burst and an own packet that are not refused leave: shown of the rules' outcome, and carried to the cells, which hold the table that it has.
 -- Assumes nothing.
 use Prim.Native.Nat.{ℕ, _+_, _*_, _<_}
 use mathlib.Core.Path.{_≡_, refl, sym, ap, _∙_, subst}
@@ -12,7 +12,7 @@ use borrow.Author.Tests.{ltb-true, eqb-true, eq-eqb, ne-eqb, not-false}
 use Rattle.lists.specs.Lists.{maybe, writtenTo}
 use Rattle.lists.specs.Keyed.{lookup, put}
 use Rattle.lists.proofs.Tests.{by-test, and-right, and-at}
-use Rattle.lists.proofs.Lists.{keep-same}
+use Rattle.lists.proofs.Lists.{keep-same, all-true}
 use Rattle.lists.proofs.Keyed.{lookup-put, lookup-put-other}
 use Rattle.window.specs.Window.{distance}
 use Rattle.wire.specs.declared.Header.{Header}
@@ -22,8 +22,8 @@ use Rattle.wire.specs.Check.{given, firstOf}
 use Rattle.wire.specs.PassOn.{flagsElsewhere}
 use Rattle.rules.specs.declared.Route.{Route}
 use Rattle.rules.specs.Settings.{Config, tableHead, recordCells, isInUse}
-use Rattle.rules.specs.Calls.{interfaceOf, ReceiveArgs, OwnArgs, Call, receive, own, question, received, receivedAs, numberOf, isRefusal}
-use Rattle.rules.specs.Rules.{OutcomeOf, Sends, lastSent, sendOn, linkBy, echoTests, ownPacket, routeOf, answerBest, send, step}
+use Rattle.rules.specs.Calls.{interfaceOf, ReceiveArgs, BurstArgs, packetsOf, singleCall, OwnArgs, Call, receive, burst, own, question, received, receivedAs, numberOf, isRefusal}
+use Rattle.rules.specs.Rules.{OutcomeOf, burstFits, receiveOn, takeBurst, Sends, lastSent, sendOn, linkBy, echoTests, ownPacket, routeOf, answerBest, send, step}
 use Rattle.rules.specs.Table.{TableState, TableRows, recordEcho, rowDistance, dropOld, table}
 use Rattle.rules.specs.Refusals.{Questions, questions, countedRecord, foreign, wouldEcho, wouldPass, verdictThen, copy, taken, facts, outcome}
 use Rattle.rules.specs.WellFormed as R
@@ -32,7 +32,8 @@ use Rattle.rules.proofs.Config.{interfaces-high}
 use Rattle.rules.proofs.Links.{interface-of}
 use Rattle.rules.proofs.Sends.{last-own}
 use Rattle.rules.proofs.Faults.{none-at, not-given}
-use Rattle.rules.proofs.Exactly.{exactly}
+use Rattle.rules.proofs.Exactly.{exactly, step-keeps}
+use Rattle.rules.proofs.Bursts.{each-keeps}
 use Rattle.rules.proofs.WellFormed.{parts, wellFormed-step}
 use Rattle.rules.proofs.Promises.{receive-written, own-written}
 use Rattle.table_layout.specs.Cells.{decode, wellFormed}
@@ -40,8 +41,9 @@ use Rattle.table_layout.specs.Calls.{Done, makeOf, callOn}
 use Rattle.table_layout.proofs.Parts.{length-encode}
 use Rattle.table_layout.proofs.Encoding.{laws, cells-size}
 use Rattle.table_layout.proofs.Calls.{goes-on}
+use Rattle.table_layout.proofs.Bursts.{as-singles}
 use Rattle.demands.specs.Demand1.{factsOn, outcomeOn, Accepted}
-use Rattle.demands.specs.Demand2.{AfterReceive, numberNow, rowStays, AfterOwn, seen, numberOn, NotRefused, StillTable, OnReceive, OnOwn, Demand2}
+use Rattle.demands.specs.Demand2.{AfterReceive, numberNow, rowStays, AfterOwn, seen, numberOn, NotRefused, StillTable, OnReceive, OnBurst, OnOwn, Demand2}
 use Rattle.demands.proofs.Demand1.{demand1}
 
 -- ---- the verdict is 22 exactly for an echo: a, b and x say own sender, broadcast sender and echo of an own packet, and n is the verdict after them
@@ -222,6 +224,24 @@ module _ (c : List ℕ) (r : ReceiveArgs) (t : NotRefused c (receive r)) where
         best = ap (λ (d : Done). d .reply) (goes-on left (question (header (r .packet) .originator)) (k .wellFormed));
       }
 
+-- a received packet leaves the settings and interface rows
+one-config : (s : TableState) (κ : Config) → s .config ≡ κ → (r : ReceiveArgs) → receiveOn table s r .state .config ≡ κ
+unfolding step outcome
+one-config s κ e r = step-keeps table 0 (λ x. x .config ≡ κ) s (receive r) e (λ n. e)
+
+on-burst : (c : List ℕ) (a : BurstArgs) → NotRefused c (burst a) → OnBurst c a
+unfolding facts outcome takeBurst
+on-burst c a t =
+    let fits = not-false (burstFits a) (not-given (not (burstFits a)) 14 (none-at (facts table (length c) (decode c) (burst a)) (no-rule c (burst a) refl t) 0)) in
+    let e = as-singles c a (well c (burst a) refl t) (t .typed) fits in
+    record {
+      kept =
+          keeps c (burst a) refl t
+          (each-keeps _ (λ s. s .config ≡ decode c .config) (a .time) (λ _. true) (λ s o p h x. one-config s (decode c .config) x (singleCall (a .time) o p)) (packetsOf a) (all-true (λ _. true) (λ _. refl) (packetsOf a)) (decode c) (a .output) refl);
+      reply = ap (λ (d : Done). d .reply) e;
+      cells = ap (λ (d : Done). d .cells) e;
+    }
+
 on-own : (c : List ℕ) (a : OwnArgs) → NotRefused c (own a) → OnOwn c a
 unfolding outcome send
 on-own c a t =
@@ -231,4 +251,4 @@ on-own c a t =
     }
 
 pub demand2 : (c : List ℕ) → Demand2 c
-demand2 c = record { receives = on-receive c; sends = on-own c }
+demand2 c = record { receives = on-receive c; bursts = on-burst c; sends = on-own c }

@@ -11,8 +11,8 @@ use Rattle.lists.specs.Lists.{keep, all}
 use Rattle.lists.proofs.Tests.{and-at, and-left, and-right}
 use Rattle.wire.specs.Check.{numbered, given, firstOf}
 use Rattle.rules.specs.Settings.{Config, MakeArgs, configOf, cellsNeeded, makeTests, makeAllowed}
-use Rattle.rules.specs.Calls.{Call, make, receive, own, sweep, question, list, Reply, numberOf, made, answered}
-use Rattle.rules.specs.Rules.{OutcomeOf, unless, refuse, begin, fresh, send, purge, answerBest, fillRows, step}
+use Rattle.rules.specs.Calls.{ReceiveArgs, packetsOf, singleCall, Call, make, receive, burst, own, sweep, question, list, Reply, numberOf, made, answered}
+use Rattle.rules.specs.Rules.{OutcomeOf, unless, refuse, begin, fresh, receiveOn, takeBurst, send, purge, answerBest, fillRows, step}
 use Rattle.rules.specs.Table.{TableState, table}
 use Rattle.rules.specs.Refusals.{facts, outcome}
 use Rattle.rules.specs.WellFormed.{typed}
@@ -20,6 +20,8 @@ use Rattle.rules.specs.WellFormed as R
 use Rattle.rules.proofs.Config.{make-allowed}
 use Rattle.rules.proofs.Faults.{none-at, not-given}
 use Rattle.rules.proofs.Exactly.{step-keeps}
+use Rattle.rules.proofs.Bursts.{each-keeps}
+use Rattle.lists.proofs.Lists.{all-true}
 use Rattle.rules.proofs.WellFormed.{wellFormed-step, wellFormed-fresh}
 use Rattle.table_layout.specs.Cells.{encode, decode, wellFormed}
 use Rattle.table_layout.specs.Calls.{Done, callOn, stepped}
@@ -48,6 +50,7 @@ by-rules c w (make a) = go (makeAllowed (length c) a) refl
     go true h = goes-on c (make a) h
     go false h = turned-away c (make a) h ∙ (λ i. record { reply = sym (not-made c a (decode c) h) i .reply; cells = sym (ap (λ (o : OutcomeOf table). encode (o .state)) (not-made c a (decode c) h) ∙ laws .cells c w) i })
 by-rules c w (receive r) = goes-on c (receive r) w
+by-rules c w (burst a) = goes-on c (burst a) w
 by-rules c w (own a) = goes-on c (own a) w
 by-rules c w (sweep t) = goes-on c (sweep t) w
 by-rules c w (question o) = goes-on c (question o) w
@@ -61,10 +64,15 @@ made-fills : (cells : ℕ) (a : MakeArgs) → makeAllowed cells a ≡ true → F
 unfolding makeAllowed
 made-fills cells a h = eqb-true cells (cellsNeeded (a .settings .capacity)) (and-at (makeTests cells a) h 2)
 
+one-fills : (cells : ℕ) (s : TableState) → Fills cells s → (r : ReceiveArgs) → Fills cells (receiveOn table s r .state)
+unfolding step outcome
+one-fills cells s p r = step-keeps table 0 (Fills cells) s (receive r) p (λ n. p)
+
 taken-fills : (cells : ℕ) (s : TableState) → Fills cells s → (call : Call) → firstOf (facts table cells s call) ≡ none → Fills cells (outcome table cells s call .state)
-unfolding facts outcome send purge answerBest fillRows
+unfolding facts outcome takeBurst send purge answerBest fillRows
 taken-fills cells s p (make a) n = made-fills cells a (not-false (makeAllowed cells a) (not-given (not (makeAllowed cells a)) 12 (none-at (facts table cells s (make a)) n 0)))
 taken-fills cells s p (receive r) n = p
+taken-fills cells s p (burst a) n = each-keeps _ (Fills cells) (a .time) (λ _. true) (λ x o q h y. one-fills cells x y (singleCall (a .time) o q)) (packetsOf a) (all-true (λ _. true) (λ _. refl) (packetsOf a)) s (a .output) p
 taken-fills cells s p (own a) n = p
 taken-fills cells s p (sweep t) n = p
 taken-fills cells s p (question o) n = p

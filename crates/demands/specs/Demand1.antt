@@ -10,7 +10,8 @@ use Rattle.lists.specs.Lists.{maybe}
 use Rattle.wire.specs.declared.Fault.{Fault}
 use Rattle.wire.specs.Check.{given, firstOf}
 use Rattle.rules.specs.declared.LinkRow.{LinkRow}
-use Rattle.rules.specs.Calls.{Call, make, receive, own, sweep, question, list, numberOf, isRefusal, refusal}
+use Rattle.rules.specs.declared.Received.{Received}
+use Rattle.rules.specs.Calls.{Call, make, receive, burst, own, sweep, question, list, numberOf, isRefusal, refusal}
 use Rattle.rules.specs.Rules.{OutcomeOf}
 use Rattle.rules.specs.Table.{table}
 use Rattle.rules.specs.Refusals.{facts, outcome}
@@ -25,10 +26,11 @@ factsOn c call = maybe (makeOf call) (given (not (wellFormed c)) 1) (λ a. none)
 abbrev pub outcomeOn : List ℕ → Call → OutcomeOf table
 outcomeOn c call = outcome table (length c) (decode c) call
 
--- the output and the rows that a call is lent besides the cells ([] where it is lent none)
+-- the output, the rows and the answer rows that a call is lent besides the cells ([] where it is lent none)
 abbrev pub lentOutput : Call → List ℕ
 lentOutput (make a) = []
 lentOutput (receive r) = r .output
+lentOutput (burst a) = a .output
 lentOutput (own a) = a .output
 lentOutput (sweep t) = []
 lentOutput (question o) = []
@@ -37,26 +39,37 @@ lentOutput (list o rs) = []
 abbrev pub lentRows : Call → List LinkRow
 lentRows (make a) = []
 lentRows (receive r) = []
+lentRows (burst a) = []
 lentRows (own a) = []
 lentRows (sweep t) = []
 lentRows (question o) = []
 lentRows (list o rs) = rs
+
+abbrev pub lentAnswers : Call → List Received
+lentAnswers (make a) = []
+lentAnswers (receive r) = []
+lentAnswers (burst a) = a .answers
+lentAnswers (own a) = []
+lentAnswers (sweep t) = []
+lentAnswers (question o) = []
+lentAnswers (list o rs) = []
 
 -- ---- the cells c, whatever they hold, and any call
 
 module _ (c : List ℕ) (call : Call) where
   -- refused by f
   pub record Refused (f : Fault) : Type 0 where
-    -- it answers the number of f, one of 1 to 13; every other field is 0, but the place for 8
+    -- it answers the number of f, one of 1 to 14; every other field is 0, but the place for 8
     pub number : numberOf (callOn c call .reply .answer) ≡ f .number
     pub among : isRefusal (f .number) ≡ true
     pub reply : callOn c call .reply ≡ refusal call f
     -- no octet, row or cell is changed
     pub output : callOn c call .reply .output ≡ lentOutput call
     pub rows : callOn c call .reply .rows ≡ lentRows call
+    pub answers : callOn c call .reply .answers ≡ lentAnswers call
     pub cells : callOn c call .cells ≡ c
 
-  -- not refused: the rules' reply, and in the cells the table that they leave; the number answered is none of 1 to 13
+  -- not refused: the rules' reply, and in the cells the table that they leave; the number answered is none of 1 to 14
   pub record Accepted : Type 0 where
     pub reply : callOn c call .reply ≡ outcomeOn c call .reply
     pub cells : callOn c call .cells ≡ encode (outcomeOn c call .state)

@@ -1,4 +1,4 @@
--- Demand 2, right by the draft: what a received packet and an own packet that are not refused leave, in reply and cells. (RULES 6, 7.2, 13.1)
+-- Demand 2, right by the draft: what a received packet, a burst of them and an own packet that are not refused leave, in reply and cells. (RULES 6, 7.2, 13.1)
 -- Demand 1 says which are refused. `callOn` is what each public call's contract cites.
 use Prim.Native.Nat.{ℕ}
 use mathlib.Core.Path.{_≡_}
@@ -14,14 +14,14 @@ use Rattle.wire.specs.declared.Header.{Header}
 use Rattle.wire.specs.Packet.{header}
 use Rattle.wire.specs.PassOn.{flagsHere, passedOn}
 use Rattle.rules.specs.declared.Route.{Route}
-use Rattle.rules.specs.Calls.{interfaceOf, ReceiveArgs, OwnArgs, Call, receive, own, question, received, asked, receivedAs, numberOf, isRefusal, answered}
-use Rattle.rules.specs.Rules.{OutcomeOf, linkBy, singleHop, nextNumber, ownPacket, send}
+use Rattle.rules.specs.Calls.{interfaceOf, ReceiveArgs, BurstArgs, OwnArgs, Call, receive, burst, own, question, received, asked, receivedAs, numberOf, isRefusal, answered}
+use Rattle.rules.specs.Rules.{OutcomeOf, burstReply, linkBy, singleHop, nextNumber, ownPacket, send}
 use Rattle.rules.specs.Table.{TableState, table}
 use Rattle.rules.specs.Refusals.{Questions, questions, countedRecord, wouldCount, verdictThen, taken}
 use Rattle.rules.specs.WellFormed.{typed}
 use Rattle.rules.specs.Promises.{PassedOn, OwnWritten}
 use Rattle.table_layout.specs.Cells.{decode, wellFormed}
-use Rattle.table_layout.specs.Calls.{callOn}
+use Rattle.table_layout.specs.Calls.{callOn, burstIn}
 
 -- ---- a received packet: s is the table in the cells as they were lent, o the reply and the table in the cells as they are left
 
@@ -123,10 +123,17 @@ pub record OnReceive (c : List ℕ) (r : ReceiveArgs) : Type 0 where
   pub noFlags : (numberOn c (receive r) ≡ 26 → ⊥) → flags ≡ 0
   pub best : callOn (callOn c (receive r) .cells) (question (header (r .packet) .originator)) .reply ≡ answered (asked (record { number = 0; route = route }))
 
+pub record OnBurst (c : List ℕ) (a : BurstArgs) : Type 0 where
+  pub kept : StillTable c (burst a)
+  -- answers, octets and table are those of single calls in that order, each given the rest of the output
+  pub reply : callOn c (burst a) .reply ≡ burstReply (a .answers) (burstIn c a)
+  pub cells : callOn c (burst a) .cells ≡ burstIn c a .state
+
 pub record OnOwn (c : List ℕ) (a : OwnArgs) : Type 0 where
   pub kept : StillTable c (own a)
   pub after : AfterOwn (decode c) a (seen c (own a))
 
 pub record Demand2 (c : List ℕ) : Type 0 where
   pub receives : (r : ReceiveArgs) → NotRefused c (receive r) → OnReceive c r
+  pub bursts : (a : BurstArgs) → NotRefused c (burst a) → OnBurst c a
   pub sends : (a : OwnArgs) → NotRefused c (own a) → OnOwn c a

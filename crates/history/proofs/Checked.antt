@@ -11,7 +11,7 @@ use Rattle.wire.specs.Check.{firstWhere, firstBadMask, hnaFault, packetFault, w
 use Rattle.wire.specs.PassOn.{flagsHere, flagsElsewhere, passedOn}
 use Rattle.rules.specs.Settings.{settingsOk, allowed, cellsNeeded, makeAllowed}
 use Rattle.rules.specs.Calls.{linkOf, neighbourOf, interfaceOf, refusal}
-use Rattle.rules.specs.Rules.{standsBelow, lastSent, nextNumber, branch, unless, receiveFault, ownFault, conclude, answerBest, fillRows, verdict, storeCounted, counted, uncounted, decide, takeEcho, judge, send, purge, step}
+use Rattle.rules.specs.Rules.{standsBelow, lastSent, nextNumber, branch, unless, receiveFault, burstFits, ownFault, conclude, receiveEach, takeBurst, answerBest, fillRows, verdict, storeCounted, counted, uncounted, decide, takeEcho, judge, send, purge, step}
 use Rattle.rules.specs.Table.{firstRecord, nextRecord, isMarked, recordEcho, dropOld, table}
 use Rattle.rules.proofs.Checked.{right, each}
 use Rattle.history.specs.Book.{current, stays, logCount, logLinks, othersBelow, logBest, isHeld, book}
@@ -22,7 +22,7 @@ says h = h .says
 
 -- the test, in both readings
 all-right : (all (right (answers table) says) histories ≡ true) × (all (right (answers book) says) histories ≡ true)
-unfolding histories ones onesIn writtenTo distance inside advance bit shift mark tally header headerOctets packetOf isU isD unnamed firstWhere firstBadMask hnaFault packetFault writtenFault flagsHere flagsElsewhere passedOn settingsOk allowed cellsNeeded makeAllowed linkOf neighbourOf interfaceOf refusal standsBelow lastSent nextNumber branch unless receiveFault ownFault conclude answerBest fillRows verdict storeCounted counted uncounted decide takeEcho judge send purge step firstRecord nextRecord isMarked recordEcho dropOld current stays logCount logLinks othersBelow logBest isHeld
+unfolding histories ones onesIn writtenTo distance inside advance bit shift mark tally header headerOctets packetOf isU isD unnamed firstWhere firstBadMask hnaFault packetFault writtenFault flagsHere flagsElsewhere passedOn settingsOk allowed cellsNeeded makeAllowed linkOf neighbourOf interfaceOf refusal standsBelow lastSent nextNumber branch unless receiveFault burstFits ownFault conclude receiveEach takeBurst answerBest fillRows verdict storeCounted counted uncounted decide takeEcho judge send purge step firstRecord nextRecord isMarked recordEcho dropOld current stays logCount logLinks othersBelow logBest isHeld
 all-right = (refl, refl)
 
 pub histories-hold : (h : History) → List·Memᴰ h histories → (answers table h ≡ h .says) × (answers book h ≡ h .says)

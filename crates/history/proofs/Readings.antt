@@ -10,23 +10,24 @@ use borrow.Author.Tests.{not-false}
 use Rattle.lists.specs.Lists.{maybe, keep}
 use Rattle.lists.specs.Keyed.{lookup, mapValues}
 use Rattle.lists.proofs.Tests.{cond-ap, maybe-map}
-use Rattle.lists.proofs.Lists.{keep-map, keep-same}
+use Rattle.lists.proofs.Lists.{keep-map, keep-same, all-true}
 use Rattle.lists.proofs.Keyed.{lookup-mapValues, length-mapValues, put-mapValues}
 use Rattle.wire.specs.declared.Header.{Header}
 use Rattle.wire.specs.declared.Fault.{Fault}
 use Rattle.wire.specs.Packet.{header}
 use Rattle.wire.specs.Check.{firstOf}
 use Rattle.rules.specs.Settings.{Config, configOf, allowed, makeAllowed}
-use Rattle.rules.specs.Calls.{Call, make, receive, own, sweep, question, list, ReceiveArgs, Reply}
+use Rattle.rules.specs.Calls.{Call, make, receive, burst, own, sweep, question, list, ReceiveArgs, BurstArgs, packetsOf, singleCall, Reply}
 use Rattle.rules.specs.declared.Ogm.{Ogm}
-use Rattle.rules.specs.Rules.{sequenceOf, Sends, sendOn, Reading, StateOf, OutcomeOf, unless, receiveFaults, linkBy, message, isDuplicate, refuse, routeOf, linkRows, answerBest, fillRows, send, isExpired, purge, step}
+use Rattle.rules.specs.Rules.{sequenceOf, Sends, sendOn, Reading, StateOf, OutcomeOf, unless, receiveFaults, linkBy, message, isDuplicate, refuse, routeOf, linkRows, answerBest, fillRows, Each, burstReply, receiveOn, burstOn, takeBurst, send, isExpired, purge, step}
 use Rattle.rules.specs.Refusals.{Questions, found, questions, countedRecord, roomFacts, stateThen, recordThen, wouldPass, taken, facts, outcome}
 use Rattle.rules.proofs.Faults.{none-at, not-given}
 use Rattle.rules.proofs.Config.{make-allowed}
 use Rattle.rules.proofs.Sends.{Fit}
 use Rattle.rules.proofs.Exactly.{flat}
+use Rattle.rules.proofs.Bursts.{inState, each-alike}
 use Rattle.history.specs.History.{after, replies}
-use Rattle.history.proofs.Sound.{Sound, step-sound}
+use Rattle.history.proofs.Sound.{Sound, one-sound, step-sound}
 
 -- f and g take the parts of B to those of T, and each word with them, under κ
 pub record Agree (B T : Reading) (f : Config → B .Record → T .Record) (g : Config → Sends → B .Rows → T .Rows) (κ : Config) : Type 0 where
@@ -139,22 +140,54 @@ module _ (B T : Reading) (f : Config → B .Record → T .Record) (g : Config �
   facts-same cells (receive r) =
       let h = header (r .packet) in
       ap (λ (fs : List (Option Fault)). receiveFaults κ (s .time) r ++ fs) (ap (roomFacts T s′ r h) (questions-same r h) ∙ room-same r h (questions B s r h))
+  facts-same cells (burst a) = refl
   facts-same cells (own a) = refl
   facts-same cells (sweep t) = refl
   facts-same cells (question o) = refl
   facts-same cells (list o lent) = rw (lookup-mapValues (f κ) o (s .records), rows-same (lookup o (s .records)))
 
 module _ (B T : Reading) (f : Config → B .Record → T .Record) (g : Config → Sends → B .Rows → T .Rows) (agree : (κ : Config) → allowed κ ≡ true → Agree B T f g κ) (cells : ℕ) where
-  outcome-same : (s : StateOf B) → Sound B s → (c : Call) → firstOf (facts B cells s c) ≡ none
-      → outcome T cells (image B T f g s) c ≡ imageOf B T f g (outcome B cells s c)
-  unfolding facts outcome send purge answerBest fillRows
-  outcome-same s p (make a) n =
-      let h = make-allowed cells a (not-false (makeAllowed cells a) (not-given (not (makeAllowed cells a)) 12 (none-at (facts B cells s (make a)) n 0))) in
-      rw (agree (configOf a) h .noRows [])
-  outcome-same s p (receive r) n =
+  -- a call, by its outcome
+  step-by : (s : StateOf B) → Sound B s → (c : Call) → (firstOf (facts B cells s c) ≡ none → outcome T cells (image B T f g s) c ≡ imageOf B T f g (outcome B cells s c))
+      → step T cells (image B T f g s) c ≡ imageOf B T f g (step B cells s c)
+  unfolding unless
+  step-by s p c same =
+      flat T cells (image B T f g s) c
+      ∙ ap (λ (fs : List (Option Fault)). unless (firstOf fs) (refuse T c (image B T f g s)) (outcome T cells (image B T f g s) c)) (facts-same B T f g s (agree (s .config) (p .allowed)) (p .fit) cells c)
+      ∙ go (firstOf (facts B cells s c)) same
+      ∙ ap (imageOf B T f g) (sym (flat B cells s c))
+    where
+      go : (x : Option Fault) → (x ≡ none → outcome T cells (image B T f g s) c ≡ imageOf B T f g (outcome B cells s c))
+          → unless x (refuse T c (image B T f g s)) (outcome T cells (image B T f g s) c) ≡ imageOf B T f g (unless x (refuse B c s) (outcome B cells s c))
+      go none h = h refl
+      go (some e) h = refl
+
+  received-same : (s : StateOf B) → Sound B s → (r : ReceiveArgs) → outcome T cells (image B T f g s) (receive r) ≡ imageOf B T f g (outcome B cells s (receive r))
+  unfolding outcome
+  received-same s p r =
       let A = agree (s .config) (p .allowed) in
       let h = header (r .packet) in
       ap (taken T (image B T f g s) r h) (questions-same B T f g s A (p .fit) r h) ∙ taken-same B T f g s A (p .fit) r h (questions B s r h)
+
+  -- a packet of a burst is a single call
+  one-same : (s : StateOf B) → Sound B s → (r : ReceiveArgs) → receiveOn T (image B T f g s) r ≡ imageOf B T f g (receiveOn B s r)
+  unfolding step
+  one-same s p r = step-by s p (receive r) (λ n. received-same s p r)
+
+  burst-same : (s : StateOf B) → Sound B s → (a : BurstArgs) → burstOn T (image B T f g s) a ≡ inState (image B T f g) (burstOn B s a)
+  burst-same s p a =
+      each-alike _ (Sound B) (a .time) (λ _. true) (image B T f g) _
+      (λ x o q h y. let r = singleCall (a .time) o q in (ap (λ (z : OutcomeOf T). (z .reply, z .state)) (one-same x y r), one-sound B x y r))
+      (packetsOf a) (all-true (λ _. true) (λ _. refl) (packetsOf a)) s (a .output) p
+
+  outcome-same : (s : StateOf B) → Sound B s → (c : Call) → firstOf (facts B cells s c) ≡ none
+      → outcome T cells (image B T f g s) c ≡ imageOf B T f g (outcome B cells s c)
+  unfolding facts outcome takeBurst send purge answerBest fillRows
+  outcome-same s p (make a) n =
+      let h = make-allowed cells a (not-false (makeAllowed cells a) (not-given (not (makeAllowed cells a)) 12 (none-at (facts B cells s (make a)) n 0))) in
+      rw (agree (configOf a) h .noRows [])
+  outcome-same s p (receive r) n = received-same s p r
+  outcome-same s p (burst a) n = ap (λ (x : Each (StateOf T)). record { reply = burstReply (a .answers) x; state = x .state }) (burst-same s p a)
   outcome-same s p (own a) n = rw (agree (s .config) (p .allowed) .sent (s .sends) (p .fit) (a .interface) (s .rows))
   outcome-same s p (sweep t) n =
       let A = agree (s .config) (p .allowed) in
@@ -170,17 +203,7 @@ module _ (B T : Reading) (f : Config → B .Record → T .Record) (g : Config �
       rw (lookup-mapValues (f (s .config)) o (s .records), rows-same B T f g s (agree (s .config) (p .allowed)) (p .fit) (lookup o (s .records)))
 
   step-same : (s : StateOf B) → Sound B s → (c : Call) → step T cells (image B T f g s) c ≡ imageOf B T f g (step B cells s c)
-  unfolding unless
-  step-same s p c =
-      flat T cells (image B T f g s) c
-      ∙ ap (λ (fs : List (Option Fault)). unless (firstOf fs) (refuse T c (image B T f g s)) (outcome T cells (image B T f g s) c)) (facts-same B T f g s (agree (s .config) (p .allowed)) (p .fit) cells c)
-      ∙ go (firstOf (facts B cells s c)) (outcome-same s p c)
-      ∙ ap (imageOf B T f g) (sym (flat B cells s c))
-    where
-      go : (x : Option Fault) → (x ≡ none → outcome T cells (image B T f g s) c ≡ imageOf B T f g (outcome B cells s c))
-          → unless x (refuse T c (image B T f g s)) (outcome T cells (image B T f g s) c) ≡ imageOf B T f g (unless x (refuse B c s) (outcome B cells s c))
-      go none h = h refl
-      go (some e) h = refl
+  step-same s p c = step-by s p c (outcome-same s p c)
 
   -- for every history: equal replies, and the map leads from one end to the other
   pub history-same : (s : StateOf B) → Sound B s → (cs : List Call)

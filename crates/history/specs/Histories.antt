@@ -6,7 +6,7 @@ use Rattle.rules.specs.declared.Settings.{Settings}
 use Rattle.rules.specs.Settings.{newestWins, presentStays, cellsNeeded}
 use Rattle.rules.specs.Calls.{Call, make, sweep, question, list}
 use Rattle.rules.specs.Rules.{Reading, fresh}
-use Rattle.rules.specs.Examples.{address, settingsBy, settings, config, packet, hear, write, played, nowhere, via, heard, unheard, wrote, total, told, joined}
+use Rattle.rules.specs.Examples.{address, settingsBy, settings, config, packet, hearAll, hear, write, played, nowhere, via, heard, unheard, wrote, total, bundled, told, joined}
 use Rattle.rules.specs.Edges.{makeArgs, blank}
 
 pub record History : Type 0 where
@@ -80,6 +80,10 @@ histories =
     (wrote 12 1 ∷ echoTaken ∷ echoTaken ∷ heard 26 0 (via 20 1) ∷ heard 26 0 (via 30 1) ∷ heard 26 0 (via 20 2) ∷ heard 26 0 (via 30 2) ∷ heard 26 0 (via 30 3) ∷ total 2 ∷ [])
     ∷ history (settingsBy presentStays 8 32 64) drawsLevel
     (wrote 12 1 ∷ echoTaken ∷ echoTaken ∷ heard 26 0 (via 20 1) ∷ heard 25 0 (via 20 1) ∷ heard 26 0 (via 20 2) ∷ heard 25 0 (via 20 2) ∷ heard 26 0 (via 30 3) ∷ total 2 ∷ [])
+    -- a burst: an echo, two numbers over its link and one of them again; then one that is refused
+    ∷ history (settings 8 32 64)
+    (send ∷ hearAll 0 48 4 ((20, packet (address 10 0 0 1) 64 50 1) ∷ (20, packet 900 0 50 10) ∷ (20, packet 900 0 50 11) ∷ (20, packet 900 0 49 10) ∷ []) ∷ hearAll 0 48 0 ((20, packet 900 0 50 12) ∷ []) ∷ question 900 ∷ [])
+    (wrote 12 1 ∷ bundled 24 ∷ (14 ∷ 0 ∷ []) ∷ told (via 20 2) ∷ [])
     -- a refused make changes nothing, another starts anew
     ∷ history (settings 8 32 64)
     (send ∷ echo 20 1 ∷ ogm 20 10 ∷ make (makeArgs (settings 8 32 64) 0 (1 ∷ [])) ∷ question 900 ∷ make (makeArgs (settings 8 32 64) 1 (1 ∷ [])) ∷ question 900 ∷ send ∷ [])

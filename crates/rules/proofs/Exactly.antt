@@ -20,8 +20,8 @@ use Rattle.wire.specs.PassOn.{flagsHere, flagsElsewhere, passedOn}
 use Rattle.wire.proofs.Laws.{reads-back}
 use Rattle.rules.specs.declared.Route.{Route}
 use Rattle.rules.specs.Settings.{neighbourMost, linkMost, ttlLeast, makeAllowed, isInUse}
-use Rattle.rules.specs.Calls.{received, ReceiveArgs, Call, make, receive, own, sweep, question, list, numberOf, isRefusal, isRuleRefusal, receivedAs, Reply, answeredWriting, refusal}
-use Rattle.rules.specs.Rules.{Reading, StateOf, OutcomeOf, branch, unless, receiveFaults, receiveFault, ownFault, linkBy, singleHop, message, conclude, ownHeader, withTime, withRecords, routeOf, linkRows, isPassedOn, refuse, answerBest, fillRows, verdict, storeCounted, counted, uncounted, decide, takeEcho, judge, send, purge, step}
+use Rattle.rules.specs.Calls.{received, ReceiveArgs, Call, make, receive, burst, own, sweep, question, list, numberOf, isRefusal, isRuleRefusal, receivedAs, Reply, answeredWriting, refusal}
+use Rattle.rules.specs.Rules.{Reading, StateOf, OutcomeOf, branch, unless, receiveFaults, receiveFault, burstFits, ownFault, linkBy, singleHop, message, conclude, ownHeader, withTime, withRecords, routeOf, linkRows, isPassedOn, refuse, answerBest, fillRows, verdict, storeCounted, counted, uncounted, decide, takeEcho, judge, takeBurst, send, purge, step}
 use Rattle.rules.specs.Refusals.{firstThat, Questions, found, questions, countedRecord, wouldEcho, wouldCount, roomFacts, verdicts, taken, facts, outcome, Exactly}
 use Rattle.rules.proofs.Faults.{first-append, first-single, unless-then, numbered, first-numbered, given-numbered, packet-numbered, written-numbered}
 
@@ -109,6 +109,7 @@ module _ (W : Reading) (cells : ℕ) (s : StateOf W) where
   flat (receive r) =
       let h = header (r .packet) in
       rw (judge-flat W s r h, unless-then, first-append (receiveFaults (s .config) (s .time) r) (roomFacts W s r h (questions W s r h)))
+  flat (burst a) = rw first-single
   flat (own a) = rw (reads-back (ownHeader (s .config) (s .sends) a) (a .hna) .size)
   flat (sweep t) = rw first-single
   flat (question o) = refl
@@ -128,6 +129,7 @@ module _ (W : Reading) (cells : ℕ) (s : StateOf W) where
       (both (given-numbered (wouldEcho W s r h q && (not (q .bidirectional) && leb neighbourMost (W .rowsHeld (s .config) (s .rows)))) 9 refl)
       (both (given-numbered (wouldCount W s r h q && (maybe (found W s r h) true (λ a. false) && leb (s .config .settings .capacity) (length (s .records)))) 10 refl)
       (both (given-numbered (wouldCount W s r h q && ltb linkMost (length (W .links (s .config) (countedRecord W s r h)))) 11 refl) refl))))))
+  facts-numbered (burst a) = both (given-numbered (not (burstFits a)) 14 refl) refl
   facts-numbered (own a) =
       both (given-numbered (not (isInUse (s .config) (a .interface))) 2 refl)
       (both (given-numbered (ltb (a .time) (s .time)) 3 refl)
@@ -139,7 +141,7 @@ module _ (W : Reading) (cells : ℕ) (s : StateOf W) where
   facts-numbered (list o lent) = both (given-numbered (ltb (length lent) (length (linkRows W (s .config) (lookup o (s .records))))) 4 refl) refl
 
 pub exactly : (W : Reading) (cells : ℕ) (s : StateOf W) (c : Call) → Exactly W cells s c
-unfolding unless outcome send purge answerBest fillRows
+unfolding unless outcome takeBurst send purge answerBest fillRows
 exactly W cells s c =
     record {
       refused = λ f e. flat W cells s c ∙ ap (λ x. unless x (refuse W c s) (outcome W cells s c)) e;
@@ -154,15 +156,17 @@ exactly W cells s c =
         let h = header (r .packet) in
         let vs = verdicts W s r h (questions W s r h) in
         not-true (isRefusal (firstThat vs 25)) (first-passes (λ n. not (isRefusal n)) vs 25 refl refl)
+    number (burst a) = refl
     number (own a) = refl
     number (sweep t) = refl
     number (question o) = refl
     number (list o lent) = refl
 
-refusal-number : (c : Call) (f : Fault) → numberOf (refusal c f .answer) ≡ f .number
+pub refusal-number : (c : Call) (f : Fault) → numberOf (refusal c f .answer) ≡ f .number
 unfolding refusal
 refusal-number (make a) f = refl
 refusal-number (receive r) f = refl
+refusal-number (burst a) f = refl
 refusal-number (own a) f = refl
 refusal-number (sweep t) f = refl
 refusal-number (question o) f = refl

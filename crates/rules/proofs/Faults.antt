@@ -14,7 +14,7 @@ use Rattle.wire.specs.declared.Fault.{Fault}
 use Rattle.wire.specs.Layout.{headerSize, entrySize, packetMost, versionAt}
 use Rattle.wire.specs.Packet.{octet, hna}
 use Rattle.wire.specs.Check.{given, firstOf, faultOf, sizeFault, firstBadMask, hnaFaults, hnaFault, packetFaults, packetFault, writtenFault}
-use Rattle.rules.specs.Calls.{isRuleRefusal}
+use Rattle.rules.specs.Calls.{isRuleRefusal, refusalMost}
 use Rattle.rules.specs.Rules.{unless}
 
 -- no fault in a list: none at each place
@@ -44,7 +44,7 @@ unless-then none none refuse o = refl
 unless-then none (some f) refuse o = refl
 unless-then (some f) y refuse o = refl
 
--- ---- the numbers of refusals are 2 to 13
+-- ---- the numbers of refusals are 2 to 14
 
 abbrev pub numbered : Option Fault → Bool
 numbered x = maybe x true (λ f. isRuleRefusal (f .number))
@@ -81,7 +81,7 @@ written-numbered e =
 -- the number 0 stands for no refusal
 pub no-number : (x : Option Fault) → numbered x ≡ true → faultOf x .number ≡ 0 → x ≡ none
 no-number none h e = refl
-no-number (some f) h e = absurd (omega (arith, leb-true 2 (f .number) (and-left (leb 2 (f .number)) (leb (f .number) 13) h)))
+no-number (some f) h e = absurd (omega (arith, leb-true 2 (f .number) (and-left (leb 2 (f .number)) (leb (f .number) refusalMost) h)))
 
 -- a number other than 0 is that of a refusal
 pub found-number : (x : Option Fault) → (faultOf x .number ≡ 0 → ⊥) → x ≡ some (faultOf x)

@@ -5,6 +5,7 @@ pub mod Config
 pub mod Links
 pub mod Sends
 pub mod Exactly
+pub mod Bursts
 pub mod Counting
 pub mod Parts
 pub mod WellFormed

@@ -4,7 +4,7 @@ use mathlib.Core.Path.{_≡_, refl, ap, _∙_}
 use mathlib.Core.Logic.{_⊎_, inl, inr, ⊎-elim}
 use mathlib.Core.Bool.{Bool, true, false, _&&_, _||_, not}
 use mathlib.Core.Option.{Option, none, some}
-use mathlib.Core.List.{List}
+use mathlib.Core.List.{List, []}
 use lib.Dec.{ltb, leb, eqb}
 use lib.ListN.{length}
 use native.Mathlib.Omega.{arith}
@@ -22,9 +22,9 @@ use Rattle.wire.specs.Layout.{ttlAt, originatorAt}
 use Rattle.wire.specs.Packet.{octet, read4, header}
 use Rattle.wire.specs.Check.{firstOf}
 use Rattle.rules.specs.Settings.{Config, configOf, allowed, makeAllowed, neighbourMost, linkMost, interfaceMost, octets, addresses, isOctet, isAddress, isNumber, isTime, isInUse, isOwn}
-use Rattle.rules.specs.Calls.{neighbourOf, interfaceOf, ReceiveArgs, OwnArgs, Call, make, receive, own, sweep, question, list}
+use Rattle.rules.specs.Calls.{neighbourOf, interfaceOf, ReceiveArgs, OwnArgs, packetsOf, singleCall, Call, make, receive, burst, own, sweep, question, list}
 use Rattle.rules.specs.declared.Ogm.{Ogm}
-use Rattle.rules.specs.Rules.{sequenceOf, Sends, hasSent, lastSent, nextNumber, sendOn, linkBy, message, echoTests, ownPacket, fresh, isExpired, answerBest, fillRows, send, purge, step}
+use Rattle.rules.specs.Rules.{sequenceOf, Sends, hasSent, lastSent, nextNumber, sendOn, linkBy, message, echoTests, ownPacket, fresh, isExpired, answerBest, fillRows, receiveOn, takeBurst, send, purge, step}
 use Rattle.rules.specs.Table.{TableRecord, TableState, firstRecord, nextRecord, recordEcho, rowDistance, dropOld, table}
 use Rattle.rules.specs.Refusals.{Questions, found, questions, countedRecord, foreign, wouldEcho, wouldCount, facts, outcome}
 use Rattle.rules.specs.WellFormed.{sendTests, rowTests, recordTests, tableTests, wellFormed, receiveTypes, typed}
@@ -35,6 +35,7 @@ use Rattle.rules.proofs.Sends.{Fit, next-lt, last-lt, last-other}
 use Rattle.rules.proofs.Counting.{sequence-lt, advance-lt, Links, first-links, next-links}
 use Rattle.rules.proofs.Parts.{row-parts, row-whole, record-parts, record-whole, record-later}
 use Rattle.rules.proofs.Exactly.{step-keeps}
+use Rattle.rules.proofs.Bursts.{each-keeps, packets-typed}
 
 -- ---- a well-formed table, part by part
 
@@ -309,11 +310,16 @@ module _ (cells : ℕ) (s : TableState) (w : Wf s) (r : ReceiveArgs) (t : typed 
 
 -- ---- every call
 
+one-wf : (cells : ℕ) (s : TableState) (r : ReceiveArgs) → typed (receive r) ≡ true → Wf s → Wf (receiveOn table s r .state)
+unfolding step
+one-wf cells s r t w = step-keeps table cells Wf s (receive r) w (received-wf cells s w r t)
+
 module _ (cells : ℕ) (s : TableState) (w : Wf s) where
   taken-wf : (c : Call) → typed c ≡ true → firstOf (facts table cells s c) ≡ none → Wf (outcome table cells s c .state)
-  unfolding facts outcome answerBest fillRows
+  unfolding facts outcome takeBurst answerBest fillRows
   taken-wf (make a) t n = fresh-wf (configOf a) (make-allowed cells a (not-false (makeAllowed cells a) (not-given (not (makeAllowed cells a)) 12 (none-at (facts table cells s (make a)) n 0))))
   taken-wf (receive r) t n = received-wf cells s w r t n
+  taken-wf (burst a) t n = each-keeps _ Wf (a .time) (λ p. typed (receive (singleCall (a .time) [] p))) (λ x o p h. one-wf cells x (singleCall (a .time) o p) h) (packetsOf a) (packets-typed a t) s (a .output) w
   taken-wf (own a) t n =
       let at = none-at (facts table cells s (own a)) n in
       sent s w a (not-false (isInUse (s .config) (a .interface)) (not-given (not (isInUse (s .config) (a .interface))) 2 (at 0))) (ownPacket (s .config) (s .sends) a) t

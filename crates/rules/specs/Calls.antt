@@ -1,11 +1,13 @@
 -- The calls with all their arguments, what they lend among them, and the answers with all their fields. (RULES 1.2)
 use Prim.Native.Nat.{ℕ, _+_, _*_, _/_, _%_}
 use mathlib.Core.Bool.{Bool}
-use mathlib.Core.List.{List, []}
+use mathlib.Core.List.{List, [], _∷_}
+use lib.ListN.{take, drop}
 use Rattle.wire.specs.declared.Fault.{Fault}
 use Rattle.rules.specs.declared.Route.{Route}
 use Rattle.rules.specs.declared.LinkRow.{LinkRow}
 use Rattle.rules.specs.declared.Received.{Received}
+use Rattle.rules.specs.declared.Burst.{Burst}
 use Rattle.rules.specs.declared.Written.{Written}
 use Rattle.rules.specs.declared.Swept.{Swept}
 use Rattle.rules.specs.declared.Asked.{Asked}
@@ -48,9 +50,41 @@ pub record OwnArgs : Type 0 where
   pub hna : List ℕ
   pub output : List ℕ
 
+-- the packets of a burst stand one after another in one buffer; of their lengths, senders and interfaces each has a list of its own
+pub record BurstArgs : Type 0 where
+  pub octets : List ℕ
+  pub lengths : List ℕ
+  pub senders : List ℕ
+  pub interfaces : List ℕ
+  pub time : ℕ
+  -- the lent output and answer rows as they stand
+  pub output : List ℕ
+  pub answers : List Received
+
+-- one of them
+pub record Packet : Type 0 where
+  pub octets : List ℕ
+  pub sender : ℕ
+  pub interface : ℕ
+
+-- the packets in a buffer, in order: each takes as many of its octets as its length says
+abbrev pub packetsIn : (buffer lengths senders interfaces : List ℕ) → List Packet
+packetsIn b (n ∷ ns) (s ∷ ss) (i ∷ is) = record { octets = take n b; sender = s; interface = i } ∷ packetsIn (drop n b) ns ss is
+packetsIn b [] ss is = []
+packetsIn b (n ∷ ns) [] is = []
+packetsIn b (n ∷ ns) (s ∷ ss) [] = []
+
+abbrev pub packetsOf : BurstArgs → List Packet
+packetsOf a = packetsIn (a .octets) (a .lengths) (a .senders) (a .interfaces)
+
+-- a packet of a burst as a received one, given this output
+abbrev pub singleCall : (time : ℕ) → (output : List ℕ) → Packet → ReceiveArgs
+singleCall t o p = record { packet = p .octets; sender = p .sender; interface = p .interface; time = t; output = o }
+
 pub data Call : Type 0 where
   make : MakeArgs → Call
   receive : ReceiveArgs → Call
+  burst : BurstArgs → Call
   own : OwnArgs → Call
   sweep : (time : ℕ) → Call
   -- the best question
@@ -64,6 +98,7 @@ pub data Call : Type 0 where
 pub data Answer : Type 0 where
   made : (number : ℕ) → Answer
   received : Received → Answer
+  burstReceived : Burst → Answer
   written : Written → Answer
   swept : Swept → Answer
   asked : Asked → Answer
@@ -72,6 +107,7 @@ pub data Answer : Type 0 where
 abbrev pub numberOf : Answer → ℕ
 numberOf (made n) = n
 numberOf (received a) = a .number
+numberOf (burstReceived a) = a .number
 numberOf (written a) = a .number
 numberOf (swept a) = a .number
 numberOf (asked a) = a .number
@@ -79,7 +115,7 @@ numberOf (listed a) = a .number
 
 -- a number that refuses; 1 is asked of the cells, so the rules give the others
 abbrev pub refusalMost : ℕ
-refusalMost = 13
+refusalMost = 14
 
 abbrev pub isRefusal : ℕ → Bool
 isRefusal n = within 1 refusalMost n
@@ -101,6 +137,10 @@ routeBy l n w = record { neighbour = neighbourOf l; interface = interfaceOf l; c
 abbrev pub receivedAs : (number place flags : ℕ) → Route → Received
 receivedAs n p f x = record { number = n; place = p; flags = f; route = x }
 
+-- a burst's: 0 or a refusal, and how many octets are written
+abbrev pub burstAs : (number written : ℕ) → Burst
+burstAs n w = record { number = n; written = w }
+
 -- an own packet's: 0 or a refusal, the place that 8 carries, the packet's length and number
 abbrev pub writtenAs : (number place length sequence : ℕ) → Written
 writtenAs n p l m = record { number = n; place = p; length = l; sequence = m }
@@ -112,23 +152,30 @@ pub record Reply : Type 0 where
   pub answer : Answer
   pub output : List ℕ
   pub rows : List LinkRow
+  -- the answer rows of a burst
+  pub answers : List Received
 
 -- of a call that is lent neither output nor rows
 abbrev pub answered : Answer → Reply
-answered a = record { answer = a; output = []; rows = [] }
+answered a = record { answer = a; output = []; rows = []; answers = [] }
 
 -- of a call that is lent an output, with the output as it leaves it
 abbrev pub answeredWriting : Answer → (output : List ℕ) → Reply
-answeredWriting a o = record { answer = a; output = o; rows = [] }
+answeredWriting a o = record { answer = a; output = o; rows = []; answers = [] }
 
 -- of a call that is lent rows, with the rows as it leaves them
 abbrev pub answeredFilling : Answer → (rows : List LinkRow) → Reply
-answeredFilling a rs = record { answer = a; output = []; rows = rs }
+answeredFilling a rs = record { answer = a; output = []; rows = rs; answers = [] }
+
+-- of a burst, with the output and the answer rows as it leaves them
+abbrev pub answeredEach : Answer → (output : List ℕ) → (answers : List Received) → Reply
+answeredEach a o rs = record { answer = a; output = o; rows = []; answers = rs }
 
 -- a refused call returns its number, every other answer field 0 but the place for 8, and writes nothing (RULES 8.1)
 unfoldable pub refusal : Call → Fault → Reply
 refusal (make a) f = answered (made (f .number))
 refusal (receive a) f = answeredWriting (received (receivedAs (f .number) (f .place) 0 noRoute)) (a .output)
+refusal (burst a) f = answeredEach (burstReceived (burstAs (f .number) 0)) (a .output) (a .answers)
 refusal (own a) f = answeredWriting (written (writtenAs (f .number) (f .place) 0 0)) (a .output)
 refusal (sweep t) f = answered (swept (record { number = f .number; removed = 0 }))
 refusal (question o) f = answered (asked (record { number = f .number; route = noRoute }))

@@ -6,10 +6,10 @@ use lib.ListN.{replicate}
 use Rattle.rules.specs.declared.Settings.{Settings}
 use Rattle.rules.specs.declared.LinkRow.{LinkRow}
 use Rattle.rules.specs.Settings.{newestWins, presentStays, MakeArgs, defaults, cellsNeeded}
-use Rattle.rules.specs.Calls.{linkOf, Call, make, receive, own, sweep, question, list}
+use Rattle.rules.specs.Calls.{linkOf, Call, make, receive, burst, own, sweep, question, list}
 use Rattle.rules.specs.Rules.{fresh}
 use Rattle.rules.specs.Table.{TableRecord, TableState, table}
-use Rattle.rules.specs.Examples.{Case, passes, sends, checks, makes, plays, leaves, refuses, formed, address, interface, settingsBy, settings, config, stage, recordWith, packet, hear, write, nowhere, via, heard, unheard, wrote, unwritten, total, refused, told, joined, Row, row}
+use Rattle.rules.specs.Examples.{Case, passes, sends, checks, makes, plays, leaves, refuses, formed, address, interface, settingsBy, settings, config, stage, recordWith, packet, unanswered, bundle, hearAll, hear, write, nowhere, via, heard, unheard, wrote, unwritten, total, refused, bundled, told, joined, Row, row}
 
 -- ---- packets, settings and tables
 
@@ -106,6 +106,13 @@ owning owns = fresh table (record { settings = settings 8 32 64; interfaces = ma
 -- a record with one link, with mark 10
 abbrev pub one : TableRecord
 one = recordWith 8 10 20 0 ((20, 10 ∷ []) ∷ [])
+
+-- an OGM with number 11, of these low octets of its originator, and its copy on a link with a row
+abbrev pub eleven : (low : ℕ) → List ℕ
+eleven n = packet (768 + n) 0 50 11
+
+abbrev pub elevenPassed : (low : ℕ) → List ℕ
+elevenPassed n = 4 ∷ 0 ∷ 49 ∷ 0 ∷ 0 ∷ 11 ∷ 0 ∷ 0 ∷ 0 ∷ 0 ∷ 3 ∷ n ∷ []
 
 abbrev pub blank : LinkRow
 blank = record { neighbour = 9; interface = 9; count = 9; window = 9; best = 0 }
@@ -328,8 +335,44 @@ edges =
     ∷ row (makes (cellsNeeded 64 - 1) (makeArgs defaults 1 (1 ∷ []))) (12 ∷ [])
     ∷ row (makes (cellsNeeded 64 + 1) (makeArgs defaults 1 (1 ∷ []))) (12 ∷ [])
     ∷ play single (make (makeArgs defaults 1 (1 ∷ [])) ∷ question 900 ∷ []) ((12 ∷ []) ∷ told (via 20 1) ∷ [])
+    -- a burst: each packet by itself, whatever the one before got; copies behind each other; the rest of output and rows untouched
+    ∷ row (leaves single (hearAll 0 30 5 ((20, eleven 132) ∷ (20, 5 ∷ replicate 11 0) ∷ (30, eleven 132) ∷ (20, eleven 133) ∷ [])))
+    (joined (elevenPassed 132 ∷ elevenPassed 133 ∷ replicate 6 0 ∷ heard 26 0 (via 20 2) ∷ unheard 6 0 ∷ heard 25 0 (via 20 2) ∷ heard 26 0 (via 20 1) ∷ replicate 7 9 ∷ []))
+    ∷ play single (hearAll 0 30 5 ((20, eleven 132) ∷ (20, 5 ∷ replicate 11 0) ∷ (30, eleven 132) ∷ (20, eleven 133) ∷ []) ∷ question 900 ∷ question 901 ∷ [])
+    (bundled 24 ∷ told (via 20 2) ∷ told (via 20 1) ∷ [])
+    -- a copy is as long as its packet
+    ∷ row (leaves single (hearAll 0 31 2 ((20, relayed) ∷ (20, eleven 133) ∷ [])))
+    (joined ((4 ∷ 5 ∷ 49 ∷ 7 ∷ 0 ∷ 10 ∷ 1 ∷ 2 ∷ 0 ∷ 0 ∷ 3 ∷ 132 ∷ 1 ∷ 2 ∷ 3 ∷ 4 ∷ 24 ∷ []) ∷ elevenPassed 133 ∷ replicate 2 0 ∷ heard 26 5 (via 20 1) ∷ heard 26 0 (via 20 1) ∷ []))
+    -- the output runs out, and a shorter packet still fits
+    ∷ row (leaves single (hearAll 0 24 3 ((20, eleven 132) ∷ (20, relayed) ∷ (20, eleven 133) ∷ [])))
+    (joined (elevenPassed 132 ∷ elevenPassed 133 ∷ heard 26 0 (via 20 2) ∷ unheard 4 0 ∷ heard 26 0 (via 20 1) ∷ []))
+    -- an echo counts for the message behind it
+    ∷ row (leaves (crowd 0) (hearAll 0 12 2 ((20, echoed) ∷ (20, eleven 132) ∷ []))) (joined (elevenPassed 132 ∷ heard 22 0 nowhere ∷ heard 26 0 (via 20 1) ∷ []))
+    -- each packet has its own sender and interface
+    ∷ row (leaves single (burst (bundle (eleven 132 ++ eleven 132) (12 ∷ 12 ∷ []) (20 ∷ 28 ∷ []) (2 ∷ 0 ∷ []) 2))) (joined (elevenPassed 132 ∷ unheard 2 0 ∷ heard 26 0 (via 28 1) ∷ []))
+    ∷ row (leaves single (burst (bundle (eleven 132 ++ eleven 132) (12 ∷ 12 ∷ []) (28 ∷ 20 ∷ []) (0 ∷ 2 ∷ []) 2))) (joined (elevenPassed 132 ∷ heard 26 0 (via 28 1) ∷ unheard 2 0 ∷ []))
+    -- a burst sets the time as its packets do; one of none leaves it, and may have any time
+    ∷ play single (hearAll 5 12 1 ((20, eleven 132) ∷ []) ∷ sweep 4 ∷ hearAll 4 12 1 ((20, eleven 133) ∷ []) ∷ question 901 ∷ []) (bundled 12 ∷ refused 3 ∷ bundled 0 ∷ told nowhere ∷ [])
+    ∷ play single (sweep 7 ∷ hearAll 3 0 0 [] ∷ sweep 6 ∷ hearAll 9 0 0 [] ∷ sweep 8 ∷ []) (total 0 ∷ bundled 0 ∷ refused 3 ∷ bundled 0 ∷ total 0 ∷ [])
+    -- 14: a list shorter or longer than the lengths; fewer rows than packets; a buffer longer or shorter than the sum, also where that wraps at 2^64
+    ∷ play single
+    (burst (bundle (eleven 132) (12 ∷ []) [] (0 ∷ []) 1)
+    ∷ burst (bundle (eleven 132) (12 ∷ []) (20 ∷ 20 ∷ []) (0 ∷ []) 1)
+    ∷ burst (bundle (eleven 132) (12 ∷ []) (20 ∷ []) [] 1)
+    ∷ burst (bundle (eleven 132) (12 ∷ []) (20 ∷ []) (0 ∷ 0 ∷ []) 1)
+    ∷ burst (bundle (eleven 132) (12 ∷ []) (20 ∷ []) (0 ∷ []) 0)
+    ∷ burst (bundle (eleven 132) (11 ∷ []) (20 ∷ []) (0 ∷ []) 1)
+    ∷ burst (bundle (eleven 132) (13 ∷ []) (20 ∷ []) (0 ∷ []) 1)
+    ∷ burst (bundle (eleven 132) (18446744073709551615 ∷ 13 ∷ []) (20 ∷ 20 ∷ []) (0 ∷ 0 ∷ []) 2)
+    ∷ burst (bundle (eleven 132) [] [] [] 0)
+    ∷ question 900
+    ∷ [])
+    (refused 14 ∷ refused 14 ∷ refused 14 ∷ refused 14 ∷ refused 14 ∷ refused 14 ∷ refused 14 ∷ refused 14 ∷ refused 14 ∷ told (via 20 1) ∷ [])
+    -- 32 packets and 33
+    ∷ play single (burst (bundle [] (replicate 32 0) (replicate 32 20) (replicate 32 0) 32) ∷ burst (bundle [] (replicate 33 0) (replicate 33 20) (replicate 33 0) 33) ∷ []) (bundled 0 ∷ refused 14 ∷ [])
     -- a refused call answers its number, the place for 8 and 0 in every other field, and writes nothing
     ∷ row (refuses (receive (record { packet = relayed; sender = 20; interface = 0; time = 0; output = 9 ∷ 9 ∷ [] })) 8 3) (8 ∷ 3 ∷ 0 ∷ 0 ∷ 0 ∷ 0 ∷ 0 ∷ 9 ∷ 9 ∷ [])
+    ∷ row (refuses (burst (bundle (eleven 132) (12 ∷ []) (20 ∷ []) [] 1)) 14 0) (joined (refused 14 ∷ replicate 12 0 ∷ replicate 7 9 ∷ []))
     ∷ row (refuses (own (record { interface = 1; time = 0; ttl = 3; gateway = 7; port = 258; hna = []; output = 9 ∷ 9 ∷ [] })) 8 3) (8 ∷ 3 ∷ 0 ∷ 0 ∷ 9 ∷ 9 ∷ [])
     ∷ row (refuses (sweep 7) 1 0) (1 ∷ 0 ∷ [])
     ∷ row (refuses (question 900) 1 0) (1 ∷ 0 ∷ 0 ∷ 0 ∷ 0 ∷ [])

@@ -13,9 +13,10 @@ use Rattle.wire.specs.Check.{packetCheck}
 use Rattle.rules.specs.declared.Settings.{Settings}
 use Rattle.rules.specs.declared.Interface.{Interface}
 use Rattle.rules.specs.declared.LinkRow.{LinkRow}
+use Rattle.rules.specs.declared.Received.{Received}
 use Rattle.rules.specs.declared.Route.{Route}
 use Rattle.rules.specs.Settings.{newestWins, presentStays, MakeArgs, Config}
-use Rattle.rules.specs.Calls.{linkOf, neighbourOf, Answer, made, received, written, swept, asked, listed, Call, make, receive, own, Reply, refusal}
+use Rattle.rules.specs.Calls.{linkOf, neighbourOf, Answer, made, received, burstReceived, written, swept, asked, listed, receivedAs, BurstArgs, Call, make, receive, burst, own, Reply, refusal}
 use Rattle.rules.specs.Rules.{Reading, StateOf, fresh, step}
 use Rattle.rules.specs.Table.{TableRecord, TableState, rowDistance, table}
 use Rattle.rules.specs.WellFormed.{wellFormed}
@@ -40,12 +41,17 @@ pub data Case : Type 0 where
   makes : (cells : ℕ) → MakeArgs → Case
   -- calls one after the other on a table: every field of each answer
   plays : TableState → List Call → Case
-  -- what a call leaves in what it was lent: the output's octets, or the fields of each row
+  -- what a call leaves in what it was lent: the output's octets, the fields of each row, and those of each answer row
   leaves : TableState → Call → Case
   -- every field of a refused call's answer, and what it leaves in what it was lent
   refuses : Call → (number place : ℕ) → Case
   -- is the table well-formed? 1 or 0
   formed : TableState → Case
+
+-- several lists one after the other
+abbrev pub joined : List (List ℕ) → List ℕ
+joined [] = []
+joined (x ∷ xs) = x ++ joined xs
 
 -- ---- the stage of the examples: two interfaces, with a broadcast address each; the first has sent number 5; a packet comes from originator 900, at time 0
 
@@ -88,6 +94,27 @@ packet o f t n = packetOf (record { version = 4; flags = f; ttl = t; gateway = 0
 abbrev pub hear : (sender interface time room : ℕ) → List ℕ → Call
 hear a i t n p = receive (record { packet = p; sender = a; interface = i; time = t; output = replicate n 0 })
 
+-- an answer row as it is lent
+abbrev pub unanswered : Received
+unanswered = receivedAs 9 9 9 (record { neighbour = 9; interface = 9; count = 9; window = 9 })
+
+-- a burst of this buffer and these lists, at time 0, with an output of 12 octets and so many rows
+abbrev pub bundle : (buffer lengths senders interfaces : List ℕ) (rows : ℕ) → BurstArgs
+bundle b ns ss is n = record { octets = b; lengths = ns; senders = ss; interfaces = is; time = 0; output = replicate 12 0; answers = replicate n unanswered }
+
+-- a burst of packets from these senders, by the first interface
+abbrev pub hearAll : (time room rows : ℕ) → List (ℕ × List ℕ) → Call
+hearAll t m n ps =
+    burst (record {
+      octets = joined (map (λ (p : ℕ × List ℕ). p .1) ps);
+      lengths = map (λ (p : ℕ × List ℕ). length (p .1)) ps;
+      senders = map (λ (p : ℕ × List ℕ). p .0) ps;
+      interfaces = map (λ (p : ℕ × List ℕ). 0) ps;
+      time = t;
+      output = replicate m 0;
+      answers = replicate n unanswered;
+    })
+
 abbrev pub write : (interface time ttl room : ℕ) → (hna : List ℕ) → Call
 write i t l n e = own (record { interface = i; time = t; ttl = l; gateway = 0; port = 0; hna = e; output = replicate n 0 })
 
@@ -106,6 +133,7 @@ routeShown x = x .neighbour ∷ x .interface ∷ x .count ∷ x .window ∷ []
 abbrev pub answerShown : Answer → List ℕ
 answerShown (made n) = n ∷ []
 answerShown (received a) = a .number ∷ a .place ∷ a .flags ∷ routeShown (a .route)
+answerShown (burstReceived a) = a .number ∷ a .written ∷ []
 answerShown (written a) = a .number ∷ a .place ∷ a .length ∷ a .sequence ∷ []
 answerShown (swept a) = a .number ∷ a .removed ∷ []
 answerShown (asked a) = a .number ∷ routeShown (a .route)
@@ -115,9 +143,13 @@ abbrev pub rowsShown : List LinkRow → List ℕ
 rowsShown [] = []
 rowsShown (r ∷ rs) = r .neighbour ∷ r .interface ∷ r .count ∷ r .window ∷ r .best ∷ rowsShown rs
 
+abbrev pub answersShown : List Received → List ℕ
+answersShown [] = []
+answersShown (a ∷ rest) = answerShown (received a) ++ answersShown rest
+
 -- what a call leaves in what it was lent
 abbrev pub lentShown : Reply → List ℕ
-lentShown x = x .output ++ rowsShown (x .rows)
+lentShown x = x .output ++ (rowsShown (x .rows) ++ answersShown (x .answers))
 
 -- calls one after the other on a table of so many cells
 abbrev pub played : (W : Reading) (cells : ℕ) → StateOf W → List Call → List ℕ
@@ -176,14 +208,13 @@ total n = 0 ∷ n ∷ []
 abbrev pub refused : (number : ℕ) → List ℕ
 refused n = n ∷ 0 ∷ []
 
+-- how many octets a burst wrote
+abbrev pub bundled : (written : ℕ) → List ℕ
+bundled w = 0 ∷ w ∷ []
+
 -- what the best question answers
 abbrev pub told : (route : List ℕ) → List ℕ
 told x = 0 ∷ x
-
--- the answers of several calls
-abbrev pub joined : List (List ℕ) → List ℕ
-joined [] = []
-joined (x ∷ xs) = x ++ joined xs
 
 -- ---- P1 to P12; A is neighbour 20, B is 30, C is 40. Where a link is counted in a record that is held, the row names the tie
 

@@ -16,8 +16,8 @@ use Rattle.wire.specs.Packet.{header, isU}
 use Rattle.wire.specs.Check.{given, firstOf, packetFault, writtenFault}
 use Rattle.wire.specs.PassOn.{flagsHere, flagsElsewhere, passedOn}
 use Rattle.rules.specs.Settings.{neighbourMost, linkMost, ttlLeast, makeAllowed, isInUse, isOwn, isBroadcast}
-use Rattle.rules.specs.Calls.{received, ReceiveArgs, Call, make, receive, own, sweep, question, list, numberOf, isRefusal, isRuleRefusal, receivedAs, answeredWriting}
-use Rattle.rules.specs.Rules.{Reading, StateOf, OutcomeOf, linkBy, singleHop, message, isEcho, isDuplicate, isFresh, isBestBy, ownPacket, routeOf, linkRows, refuse, begin, send, purge, answerBest, fillRows, step}
+use Rattle.rules.specs.Calls.{received, ReceiveArgs, Call, make, receive, burst, own, sweep, question, list, numberOf, isRefusal, isRuleRefusal, receivedAs, answeredWriting}
+use Rattle.rules.specs.Rules.{Reading, StateOf, OutcomeOf, linkBy, singleHop, message, isEcho, isDuplicate, isFresh, isBestBy, ownPacket, routeOf, linkRows, refuse, begin, burstFits, takeBurst, send, purge, answerBest, fillRows, step}
 
 -- the first of a list whose fact holds, or another
 abbrev pub firstThat : List (Bool × ℕ) → (other : ℕ) → ℕ
@@ -140,6 +140,7 @@ module _ (W : Reading) (cells : ℕ) (s : StateOf W) where
       ∷ packetFault (s .config .settings .version) (r .packet)
       -- 9, 10, 11
       ∷ roomFacts W s r (header (r .packet)) (questions W s r (header (r .packet)))
+  facts (burst a) = given (not (burstFits a)) 14 ∷ []
   facts (own a) =
       given (not (isInUse (s .config) (a .interface))) 2
       ∷ given (ltb (a .time) (s .time)) 3
@@ -156,13 +157,14 @@ module _ (W : Reading) (cells : ℕ) (s : StateOf W) where
   unfoldable pub outcome : Call → OutcomeOf W
   outcome (make a) = begin W a
   outcome (receive r) = taken W s r (header (r .packet)) (questions W s r (header (r .packet)))
+  outcome (burst a) = takeBurst W s a
   outcome (own a) = send W s a (ownPacket (s .config) (s .sends) a)
   outcome (sweep t) = purge W s t
   outcome (question o) = answerBest W s (lookup o (s .records))
   outcome (list o lent) = fillRows W s lent (linkRows W (s .config) (lookup o (s .records)))
 
-  -- a call is refused by the first of its facts that holds, and then changes and writes nothing; its number is one of 2 to 13
-  -- otherwise it has its outcome, and answers none of 1 to 13
+  -- a call is refused by the first of its facts that holds, and then changes and writes nothing; its number is one of 2 to 14
+  -- otherwise it has its outcome, and answers none of 1 to 14
   pub record Exactly (c : Call) : Type 0 where
     pub refused : (f : Fault) → firstOf (facts c) ≡ some f → step W cells s c ≡ refuse W c s f
     pub numbers : (f : Fault) → firstOf (facts c) ≡ some f → isRuleRefusal (f .number) ≡ true

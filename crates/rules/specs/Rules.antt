@@ -3,10 +3,10 @@
 use Prim.Native.Nat.{ℕ, _+_, _-_, _%_}
 use mathlib.Core.Bool.{Bool, true, false, cond, _&&_, _||_, not}
 use mathlib.Core.Option.{Option, none, some}
-use mathlib.Core.List.{List, [], _∷_, map}
+use mathlib.Core.List.{List, [], _∷_, _++_, map}
 use lib.Dec.{ltb, leb, eqb}
-use lib.ListN.{length}
-use Rattle.lists.specs.Lists.{maybe, and, keep, writtenTo}
+use lib.ListN.{length, take, drop}
+use Rattle.lists.specs.Lists.{maybe, and, keep, sum, writtenTo}
 use Rattle.lists.specs.Keyed.{lookup, hasKey, put}
 use Rattle.window.specs.Window.{numbers, distance}
 use Rattle.wire.specs.declared.Header.{Header}
@@ -16,9 +16,10 @@ use Rattle.wire.specs.Check.{given, firstOf, packetFault, writtenFault}
 use Rattle.wire.specs.PassOn.{flagsHere, flagsElsewhere, passedOn}
 use Rattle.rules.specs.declared.Route.{Route}
 use Rattle.rules.specs.declared.LinkRow.{LinkRow}
+use Rattle.rules.specs.declared.Received.{Received}
 use Rattle.rules.specs.declared.Ogm.{Ogm}
-use Rattle.rules.specs.Settings.{newestWins, neighbourMost, linkMost, ttlLeast, MakeArgs, Config, configOf, makeAllowed, interfaceAt, isInUse, isOwn, isBroadcast}
-use Rattle.rules.specs.Calls.{linkOf, neighbourOf, interfaceOf, noRoute, routeBy, made, received, written, swept, asked, listed, receivedAs, writtenAs, ReceiveArgs, OwnArgs, Call, make, receive, own, sweep, question, list, Reply, answered, answeredWriting, answeredFilling, refusal}
+use Rattle.rules.specs.Settings.{newestWins, neighbourMost, linkMost, packetsMost, ttlLeast, MakeArgs, Config, configOf, makeAllowed, interfaceAt, isInUse, isOwn, isBroadcast}
+use Rattle.rules.specs.Calls.{linkOf, neighbourOf, interfaceOf, noRoute, routeBy, Answer, made, received, burstReceived, written, swept, asked, listed, numberOf, receivedAs, burstAs, writtenAs, ReceiveArgs, BurstArgs, Packet, packetsOf, singleCall, OwnArgs, Call, make, receive, burst, own, sweep, question, list, Reply, answered, answeredWriting, answeredFilling, answeredEach, refusal}
 
 -- ---- readings
 
@@ -117,6 +118,19 @@ receiveFaults κ now r =
 unfoldable pub receiveFault : Config → (now : ℕ) → ReceiveArgs → Option Fault
 receiveFault κ now r = firstOf (receiveFaults κ now r)
 
+-- 14, unless all of these hold: the lists are of one length, the packets are no more than may be and than the answer rows, and their lengths add up to the buffer
+abbrev pub burstTests : BurstArgs → List Bool
+burstTests a =
+    eqb (length (a .senders)) (length (a .lengths))
+    ∷ eqb (length (a .interfaces)) (length (a .lengths))
+    ∷ leb (length (a .lengths)) packetsMost
+    ∷ leb (length (a .lengths)) (length (a .answers))
+    ∷ eqb (sum (a .lengths)) (length (a .octets))
+    ∷ []
+
+unfoldable pub burstFits : BurstArgs → Bool
+burstFits a = and (burstTests a)
+
 -- 2, 3, 4, of the packet p that would be written 5, 7, 8, and 13
 abbrev pub ownFaults : Config → (now : ℕ) → OwnArgs → (p : List ℕ) → List (Option Fault)
 ownFaults κ now a p =
@@ -161,6 +175,47 @@ unfoldable pub conclude : ReceiveArgs → Header → (bidirectional passed : Boo
 conclude r h bidirectional true route =
     answeredWriting (received (receivedAs 26 0 (flagsElsewhere (h .flags)) route)) (writtenTo (passedOn (flagsHere (singleHop r h) bidirectional (h .flags)) (r .packet)) (r .output))
 conclude r h bidirectional false route = answeredWriting (received (receivedAs 25 0 0 route)) (r .output)
+
+-- ---- the packets of a burst (RULES 6.9)
+
+-- how much of the output a received packet's reply has written: only 26 writes, and only the packet's length (RULES 6.8)
+abbrev pub writtenBy : ReceiveArgs → Reply → ℕ
+writtenBy r x = cond (eqb (numberOf (x .answer)) 26) (length (r .packet)) 0
+
+-- a received packet's answer as a row; no other answer stands there
+abbrev pub answerRow : Answer → Received
+answerRow (received a) = a
+answerRow (made n) = receivedAs 0 0 0 noRoute
+answerRow (burstReceived a) = receivedAs 0 0 0 noRoute
+answerRow (written a) = receivedAs 0 0 0 noRoute
+answerRow (swept a) = receivedAs 0 0 0 noRoute
+answerRow (asked a) = receivedAs 0 0 0 noRoute
+answerRow (listed a) = receivedAs 0 0 0 noRoute
+
+-- what they leave: an answer each, the output, how many octets of it are written, and the state S
+pub record Each (S : Type 0) : Type 0 where
+  pub answers : List Received
+  pub output : List ℕ
+  pub written : ℕ
+  pub state : S
+
+-- a packet's reply, which has written n octets, and then what the packets after it leave
+abbrev pub andThen : {S : Type 0} → Reply → (n : ℕ) → Each S → Each S
+andThen x n rest =
+    record { answers = answerRow (x .answer) ∷ rest .answers; output = take n (x .output) ++ rest .output; written = n + rest .written; state = rest .state }
+
+-- each is a single call, in that order, given the rest of the output from where the copy before it ended; `call` is what a single call replies and leaves
+unfoldable pub receiveEach : {S : Type 0} → (call : S → ReceiveArgs → Reply × S) → (time : ℕ) → S → (output : List ℕ) → List Packet → Each S
+receiveEach call t s o [] = record { answers = []; output = o; written = 0; state = s }
+receiveEach call t s o (p ∷ ps) =
+    let r = singleCall t o p in
+    let x = call s r in
+    let n = writtenBy r (x .0) in
+    andThen (x .0) n (receiveEach call t (x .1) (drop n (x .0 .output)) ps)
+
+-- the burst's reply: its answers stand at the start of the caller's rows
+abbrev pub burstReply : {S : Type 0} → (lent : List Received) → Each S → Reply
+burstReply lent x = answeredEach (burstReceived (burstAs 0 (x .written))) (x .output) (writtenTo (x .answers) lent)
 
 -- ---- the packet that own writes (RULES 7.2)
 
@@ -305,6 +360,17 @@ module _ (W : Reading) where
       (branch (isU (h .flags)) (verdict r h 24 (withTime s (r .time)))
       (decide s r h (W .hasRow (s .config) (s .rows) (linkBy r)) (lookup (h .originator) (s .records))))))
 
+  -- a received packet: refused by its arguments, or judged
+  abbrev pub receiveOn : StateOf → ReceiveArgs → OutcomeOf
+  receiveOn s r = unless (receiveFault (s .config) (s .time) r) (refuse (receive r) s) (judge s r (header (r .packet)))
+
+  -- a burst is its packets' single calls (RULES 6.9)
+  abbrev pub burstOn : StateOf → BurstArgs → Each StateOf
+  burstOn s a = receiveEach (λ x r. (receiveOn x r .reply, receiveOn x r .state)) (a .time) s (a .output) (packetsOf a)
+
+  unfoldable pub takeBurst : StateOf → BurstArgs → OutcomeOf
+  takeBurst s a = record { reply = burstReply (a .answers) (burstOn s a); state = burstOn s a .state }
+
   -- ---- own packet and sweep
 
   -- the packet p at the start of the output; its length and number; rows that are too far back are dropped (RULES 7.2)
@@ -337,7 +403,8 @@ module _ (W : Reading) where
 
   unfoldable pub step : (cells : ℕ) → StateOf → Call → OutcomeOf
   step cells s (make a) = unless (given (not (makeAllowed cells a)) 12) (refuse (make a) s) (begin a)
-  step cells s (receive r) = unless (receiveFault (s .config) (s .time) r) (refuse (receive r) s) (judge s r (header (r .packet)))
+  step cells s (receive r) = receiveOn s r
+  step cells s (burst a) = unless (given (not (burstFits a)) 14) (refuse (burst a) s) (takeBurst s a)
   step cells s (own a) =
       let p = ownPacket (s .config) (s .sends) a in
       unless (ownFault (s .config) (s .time) a p) (refuse (own a) s) (send s a p)

@@ -48,6 +48,10 @@ neighbourMost = 32
 abbrev pub linkMost : ℕ
 linkMost = 8
 
+-- packets of one burst
+abbrev pub packetsMost : ℕ
+packetsMost = 32
+
 -- the least TTL of a packet that is passed on or written
 abbrev pub ttlLeast : ℕ
 ttlLeast = 2

@@ -9,7 +9,7 @@ use Rattle.lists.specs.Lists.{and, all}
 use Rattle.lists.specs.Keyed.{hasKey, rising}
 use Rattle.window.specs.Window.{hasMark}
 use Rattle.rules.specs.Settings.{Config, allowed, neighbourMost, linkMost, within, isOctet, isAddress, isNumber, isTime, isInUse, isOwn}
-use Rattle.rules.specs.Calls.{neighbourOf, interfaceOf, ReceiveArgs, Call, make, receive, own, sweep, question, list}
+use Rattle.rules.specs.Calls.{neighbourOf, interfaceOf, ReceiveArgs, BurstArgs, Call, make, receive, burst, own, sweep, question, list}
 use Rattle.rules.specs.Rules.{Sends, hasSent}
 use Rattle.rules.specs.Table.{TableRecord, TableState, rowDistance}
 
@@ -76,9 +76,13 @@ wellFormed s = and (tableTests s)
 abbrev pub receiveTypes : ReceiveArgs → List Bool
 receiveTypes r = isAddress (r .sender) ∷ all isOctet (r .packet) ∷ isTime (r .time) ∷ []
 
+abbrev pub burstTypes : BurstArgs → List Bool
+burstTypes a = all isAddress (a .senders) ∷ all isOctet (a .octets) ∷ isTime (a .time) ∷ []
+
 abbrev pub typed : Call → Bool
 typed (make a) = true
 typed (receive r) = and (receiveTypes r)
+typed (burst a) = and (burstTypes a)
 typed (own a) = isTime (a .time)
 typed (sweep t) = isTime t
 typed (question o) = true

@@ -94,6 +94,13 @@ pub struct Asked {
     pub route: Route,
 }
 
+// The answer to a burst: how many octets were written.
+#[repr(C)]
+pub struct Burst {
+    pub number: u64,
+    pub written: u64,
+}
+
 // The answer to the list call: how many rows were filled.
 #[repr(C)]
 pub struct Listed {

@@ -25,6 +25,9 @@ pub const NEIGHBOURS_MOST: u64 = 32;
 
 pub const LINKS_MOST: u64 = 8;
 
+// Of the packets of a burst.
+pub const PACKETS_MOST: u64 = 32;
+
 // The least TTL of a packet that is passed on, and of an own packet.
 pub const TTL_LEAST: u8 = 2;
 

@@ -2,3 +2,4 @@ pub mod Interfaces
 pub mod Parts
 pub mod Encoding
 pub mod Calls
+pub mod Bursts

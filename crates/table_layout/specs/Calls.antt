@@ -7,8 +7,8 @@ use Prim.Native.Nat.{ℕ}
 use lib.ListN.{length}
 use Rattle.lists.specs.Lists.{maybe}
 use Rattle.rules.specs.Settings.{MakeArgs, makeAllowed}
-use Rattle.rules.specs.Calls.{Call, make, receive, own, sweep, question, list, Reply, refusal}
-use Rattle.rules.specs.Rules.{branch, step}
+use Rattle.rules.specs.Calls.{ReceiveArgs, BurstArgs, packetsOf, Call, make, receive, burst, own, sweep, question, list, Reply, refusal}
+use Rattle.rules.specs.Rules.{Each, receiveEach, branch, step}
 use Rattle.rules.specs.Table.{table}
 use Rattle.rules.specs.WellFormed.{typed}
 use Rattle.table_layout.specs.Cells.{encode, decode, wellFormed}
@@ -30,6 +30,7 @@ stepped c call = record { reply = step table (length c) (decode c) call .reply; 
 abbrev pub makeOf : Call → Option MakeArgs
 makeOf (make a) = some a
 makeOf (receive r) = none
+makeOf (burst a) = none
 makeOf (own a) = none
 makeOf (sweep t) = none
 makeOf (question o) = none
@@ -45,6 +46,14 @@ unmet call = maybe (makeOf call) 1 (λ a. 12)
 
 unfoldable pub callOn : List ℕ → Call → Done
 callOn c call = branch (meets c call) (stepped c call) (refused c call (unmet call))
+
+-- a single received packet: its reply, and the cells as it leaves them
+abbrev pub receiveIn : List ℕ → ReceiveArgs → Reply × List ℕ
+receiveIn c r = (callOn c (receive r) .reply, callOn c (receive r) .cells)
+
+-- the packets of a burst, each a single call on the cells that the one before left (RULES 6.9)
+abbrev pub burstIn : List ℕ → BurstArgs → Each (List ℕ)
+burstIn c a = receiveEach receiveIn (a .time) c (a .output) (packetsOf a)
 
 -- ---- what a call promises, whatever it is lent (RULES 13.1)
 

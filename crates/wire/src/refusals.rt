@@ -24,3 +24,5 @@ pub const LINKS_FULL: u64 = 11;
 pub const NOT_ALLOWED: u64 = 12;
 
 pub const TTL_TOO_LOW: u64 = 13;
+
+pub const WRONG_BURST: u64 = 14;

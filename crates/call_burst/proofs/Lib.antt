@@ -1,0 +1,4 @@
+-- Receiving a burst.
+pub mod One
+pub mod Each
+pub mod Calls

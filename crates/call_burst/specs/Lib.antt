@@ -1,0 +1,2 @@
+-- What the steps of a burst are asked and leave.
+pub mod Bursts

@@ -1,0 +1,2 @@
+-- What the check of a burst is told.
+pub mod Sizes

@@ -1,0 +1,2 @@
+-- The answers to a burst's packets.
+pub mod Answers
