@@ -102,12 +102,15 @@ pub struct ReceiveAnswer {
     pub other_flags: u8,
     pub best: BestAnswer,
     pub octets: Vec<u8>,
-    /// Whether the message was counted and its link then tied with the highest other one;
-    /// this is not printed.
+    /// Whether the message was counted; this and what follows is not printed.
+    pub counted: bool,
+    /// Whether its link then tied with the highest other one.
     pub tied: bool,
+    /// Whether it was an echo that made its neighbour row.
+    pub row_made: bool,
 }
 
-type Judged = Result<ReceiveAnswer, Refusal>;
+pub type Judged = Result<ReceiveAnswer, Refusal>;
 
 /// What an own packet answers where it is not refused.
 #[derive(Clone, Debug, PartialEq)]
@@ -148,6 +151,7 @@ pub struct Own {
     pub hna: Vec<u8>,
 }
 
+#[derive(Clone)]
 pub struct Book {
     pub settings: Settings,
     pub time: u64,
@@ -362,11 +366,13 @@ impl Book {
         if !accepted {
             return self.ended(23, header);
         }
-        if !self.has_row(link) && self.rows().count() >= NEIGHBOURS_MOST {
+        let row_made = !self.has_row(link);
+        if row_made && self.rows().count() >= NEIGHBOURS_MOST {
             return Err(refusal(9));
         }
         self.echoes.insert(link, 0);
         self.ended(22, header)
+            .map(|answer| ReceiveAnswer { row_made, ..answer })
     }
 
     /// Step 5: the two questions, counted and passed on.
@@ -384,6 +390,7 @@ impl Book {
         let mut answer = ReceiveAnswer {
             verdict: 25,
             best: self.best_by(words.as_ref()),
+            counted,
             tied: counted && words.as_ref().is_some_and(|words| words.tied(link)),
             ..ReceiveAnswer::default()
         };

@@ -2,6 +2,7 @@
 //! that packets get echoed, counted and refused on purpose; nothing but the seed decides.
 
 mod breaks;
+mod bursts;
 mod calls;
 mod messages;
 mod odd;
@@ -13,6 +14,7 @@ use crate::cells::cells_needed;
 use crate::play::{self, Player};
 use crate::script::{self, Call, Line};
 use crate::words::Link;
+use bursts::Gathering;
 use random::Random;
 use stage::{Kind, Stage};
 use std::io::{self, Write};
@@ -27,6 +29,8 @@ pub struct Generator<'a> {
     calls: u64,
     limit: u64,
     stage: Stage,
+    /// While packets are made for a burst: they are gathered here and no line is written.
+    gathering: Option<Gathering>,
     failure: Option<io::Error>,
 }
 
@@ -48,6 +52,7 @@ pub fn generate(seed: u64, calls: u64, output: &mut dyn Write) -> io::Result<()>
             run: None,
             stay: 0,
         },
+        gathering: None,
         failure: None,
     };
     generator.before_any_make();
@@ -122,6 +127,9 @@ impl Generator<'_> {
             self.say(line.to_string());
         }
         self.say("receive 0 1 0 12 040032000001000000000009".to_string());
+        self.say("burst 0 12 1 040032000001000000000009 1 12 1 1 1 0".to_string());
+        self.say("burst 0 0 0 - 0 0 0".to_string());
+        self.say("burst 0 0 0 - 1 0 0 0".to_string());
         self.say("size 64".to_string());
         self.say("cells 0".to_string());
         self.say("best 1".to_string());
@@ -219,6 +227,9 @@ impl Generator<'_> {
         }
         if roll < own + echo {
             return self.any_echo();
+        }
+        if self.random.chance(110) {
+            return self.burst();
         }
         if self.stage.kind == Kind::Runs && self.random.chance(600) {
             // Runs that go on are to fill their window.

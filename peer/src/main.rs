@@ -2,12 +2,13 @@
 //! input and prints the same lines, by a plain book that keeps lists and no marks.
 //!
 //! `peer` plays, `peer numbered` plays with the script's line number before each line,
-//! `peer ties FILE` plays and writes to a file, for each tie setting, how many counted messages
-//! left their link tied with the highest other one,
+//! `peer counts FILE` plays and writes to a file how often it met what `counts.rs` names,
 //! `peer generate SEED CALLS` and `peer outside FILE..` write scripts.
 
 mod book;
+mod burst;
 mod cells;
+mod counts;
 mod generate;
 mod outside;
 mod packet;
@@ -22,7 +23,7 @@ use std::io::{self, BufReader, BufWriter, Write};
 use std::process::ExitCode;
 
 const USAGE: &str =
-    "usage: peer [numbered | ties FILE] | peer generate SEED CALLS | peer outside FILE..";
+    "usage: peer [numbered | counts FILE] | peer generate SEED CALLS | peer outside FILE..";
 
 fn main() -> ExitCode {
     let arguments: Vec<String> = std::env::args().skip(1).collect();
@@ -30,7 +31,7 @@ fn main() -> ExitCode {
     let done = match words.as_slice() {
         [] => play(false, None),
         ["numbered"] => play(true, None),
-        ["ties", file] => play(false, Some(file)),
+        ["counts", file] => play(false, Some(file)),
         ["generate", seed, calls] => generate(seed, calls),
         ["outside", files @ ..] if !files.is_empty() => outside(files),
         _ => return usage(),
@@ -53,13 +54,12 @@ fn writer() -> BufWriter<io::StdoutLock<'static>> {
     BufWriter::with_capacity(1 << 16, io::stdout().lock())
 }
 
-fn play(numbered: bool, ties: Option<&str>) -> io::Result<ExitCode> {
+fn play(numbered: bool, counts: Option<&str>) -> io::Result<ExitCode> {
     let mut player = Player::new();
     let mut input = BufReader::with_capacity(1 << 16, io::stdin().lock());
     let ending = play::play(&mut player, &mut input, &mut writer(), numbered)?;
-    if let Some(file) = ties {
-        let [newest, stays] = player.ties;
-        std::fs::write(file, format!("newest {newest}\nstays {stays}\n"))?;
+    if let Some(file) = counts {
+        std::fs::write(file, player.counts.lines())?;
     }
     match ending {
         play::Ending::Whole => Ok(ExitCode::SUCCESS),

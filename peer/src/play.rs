@@ -1,7 +1,9 @@
 //! Plays a script: the book beside the program's buffer of cells, and the lines it prints.
 
-use crate::book::{self, BestAnswer, Book, Own, Receive, Refusal, TIE_MOST};
+use crate::book::{self, BestAnswer, Book, Judged, Own, Receive, Refusal};
+use crate::burst::Burst;
 use crate::cells;
+use crate::counts::Counts;
 use crate::packet;
 use crate::script::{self, Call, Line, BUFFER_CELLS};
 use std::io::{self, BufRead, Write};
@@ -22,9 +24,7 @@ pub enum Lent {
 pub struct Player {
     pub book: Option<Book>,
     pub lent: usize,
-    /// For each tie setting, how many counted messages left their link tied with the highest
-    /// other one.
-    pub ties: [u64; TIE_MOST as usize + 1],
+    pub counts: Counts,
     buffer: Vec<u64>,
     state: Lent,
     /// The book has changed since the buffer was written.
@@ -40,7 +40,7 @@ impl Player {
         Player {
             book: None,
             lent: BUFFER_CELLS,
-            ties: Default::default(),
+            counts: Counts::default(),
             buffer: vec![0; BUFFER_CELLS],
             state: Lent::Unknown,
             stale: false,
@@ -106,6 +106,7 @@ impl Player {
             Call::Cells { lent } => self.lend(*lent),
             Call::Make { settings } => self.make(settings, out),
             Call::Receive(arrival) => self.receive(arrival, out)?,
+            Call::Burst(burst) => self.burst(burst, out)?,
             Call::Own(own) => self.own(own, out)?,
             Call::Sweep { time } => self.sweep(*time, out)?,
             Call::Best { originator } => self.best(*originator, out)?,
@@ -159,33 +160,41 @@ impl Player {
     }
 
     fn receive(&mut self, arrival: &Receive, out: &mut Vec<u8>) -> Result<(), OutsideBook> {
-        match self.table()?.and_then(|book| book.receive(arrival)) {
+        let judged = self.table()?.and_then(|book| book.receive(arrival));
+        self.packet_answered(&judged);
+        say(out, b"receive", &packet_fields(&judged));
+        say_octets(out, copy(&judged));
+        end(out);
+        Ok(())
+    }
+
+    /// A packet was answered: the buffer and the counts follow.
+    fn packet_answered(&mut self, judged: &Judged) {
+        if let (Ok(answer), Some(book)) = (judged, &self.book) {
+            self.counts.answered(answer, book.settings.tie);
+            self.changed();
+        }
+    }
+
+    fn burst(&mut self, burst: &Burst, out: &mut Vec<u8>) -> Result<(), OutsideBook> {
+        let time = self.book.as_ref().map_or(0, |book| book.time);
+        match self.table()?.and_then(|book| book.burst(burst)) {
             Err(refusal) => {
-                let fields = [refusal.number, refusal.place, 0, 0, 0, 0, 0];
-                say(out, b"receive", &fields);
-                say_octets(out, &[]);
-            }
-            Ok(answer) => {
-                self.changed();
-                if let (true, Some(book)) = (answer.tied, &self.book) {
-                    self.ties[book.settings.tie as usize] += 1;
+                if refusal.number == 14 {
+                    self.counts.refused(burst);
                 }
-                let [neighbour, interface, count, window] = best_fields(&answer.best);
-                let flags = u64::from(answer.other_flags);
-                let fields = [
-                    answer.verdict,
-                    0,
-                    flags,
-                    neighbour,
-                    interface,
-                    count,
-                    window,
-                ];
-                say(out, b"receive", &fields);
-                say_octets(out, &answer.octets);
+                say(out, b"burst", &[refusal.number, 0, 0]);
+                say_octets(out, &[]);
+                end(out);
+            }
+            Ok(answers) => {
+                self.counts.taken(burst, &answers, time);
+                for judged in &answers {
+                    self.packet_answered(judged);
+                }
+                say_burst(out, &answers);
             }
         }
-        end(out);
         Ok(())
     }
 
@@ -260,6 +269,47 @@ fn check(version: u64, octets: &[u8], out: &mut Vec<u8>) {
     end(out);
 }
 
+/// The lines of a burst that was taken.
+fn say_burst(out: &mut Vec<u8>, answers: &[Judged]) {
+    let written: Vec<u8> = answers.iter().flat_map(copy).copied().collect();
+    say(
+        out,
+        b"burst",
+        &[0, answers.len() as u64, written.len() as u64],
+    );
+    say_octets(out, &written);
+    end(out);
+    for judged in answers {
+        say(out, b"packet", &packet_fields(judged));
+        end(out);
+    }
+}
+
+/// What is printed of a packet's answer, its copy aside.
+fn packet_fields(judged: &Judged) -> [u64; 7] {
+    match judged {
+        Err(refusal) => [refusal.number, refusal.place, 0, 0, 0, 0, 0],
+        Ok(answer) => {
+            let [neighbour, interface, count, window] = best_fields(&answer.best);
+            let flags = u64::from(answer.other_flags);
+            [
+                answer.verdict,
+                0,
+                flags,
+                neighbour,
+                interface,
+                count,
+                window,
+            ]
+        }
+    }
+}
+
+/// The octets written for a packet.
+fn copy(judged: &Judged) -> &[u8] {
+    judged.as_ref().map_or(&[], |answer| &answer.octets)
+}
+
 fn best_fields(best: &BestAnswer) -> [u64; 4] {
     let neighbour = u64::from(best.neighbour);
     [neighbour, best.interface, best.count, best.window]
@@ -287,6 +337,12 @@ fn say_number(out: &mut Vec<u8>, number: u64) {
         }
     }
     out.extend_from_slice(&digits[start..]);
+}
+
+/// Prints a list as a burst's line has it: its number of members, then the members.
+pub fn say_list(out: &mut Vec<u8>, members: &[u64]) {
+    say(out, b"", &[members.len() as u64]);
+    say(out, b"", members);
 }
 
 fn say_octets(out: &mut Vec<u8>, octets: &[u8]) {

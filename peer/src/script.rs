@@ -1,12 +1,18 @@
 //! Reads one line of a script of calls, in the form that the replay program takes.
 
 use crate::book::{InterfaceRow, Own, Receive, Settings, INTERFACES_MOST, TIE_DEFAULT};
+use crate::burst::Burst;
 
 pub const BUFFER_CELLS: usize = 66_560;
-const LINE_MOST: usize = 8192;
-const OUTPUT_MOST: u64 = 4096;
-const OCTETS_MOST: usize = 2000;
+pub const LINE_MOST: usize = 65_536;
+pub const OUTPUT_MOST: u64 = 16_384;
+/// Octets of a packet or of HNA entries.
+pub const OCTETS_MOST: usize = 2000;
 const ROWS_MOST: u64 = 16;
+/// Octets, answer rows and members of each list of a burst.
+pub const BURST_OCTETS_MOST: usize = 16_384;
+pub const BURST_ROWS_MOST: u64 = 40;
+pub const BURST_MEMBERS_MOST: u64 = 40;
 
 /// One call of a script.
 #[derive(Clone, Debug, PartialEq)]
@@ -15,6 +21,7 @@ pub enum Call {
     Cells { lent: usize },
     Make { settings: Settings },
     Receive(Receive),
+    Burst(Burst),
     Own(Own),
     Sweep { time: u64 },
     Best { originator: u32 },
@@ -65,6 +72,15 @@ fn read_call(name: &[u8], words: &mut Words) -> Option<Call> {
             time: words.number()?,
             output: words.at_most(OUTPUT_MOST)?,
             packet: words.octets()?,
+        })),
+        b"burst" => Some(Call::Burst(Burst {
+            time: words.number()?,
+            output: words.at_most(OUTPUT_MOST)?,
+            rows: words.at_most(BURST_ROWS_MOST)?,
+            octets: hex(words.next()?, BURST_OCTETS_MOST)?,
+            lengths: words.list(Words::number)?,
+            senders: words.list(Words::address)?,
+            interfaces: words.list(Words::number)?,
         })),
         b"own" => Some(Call::Own(Own {
             interface: words.number()?,
@@ -152,7 +168,13 @@ impl<'a> Words<'a> {
     }
 
     fn octets(&mut self) -> Option<Vec<u8>> {
-        hex(self.next()?)
+        hex(self.next()?, OCTETS_MOST)
+    }
+
+    /// A list of a burst: its number of members, then the members.
+    fn list<T>(&mut self, member: fn(&mut Words<'a>) -> Option<T>) -> Option<Vec<T>> {
+        let many = self.at_most(BURST_MEMBERS_MOST)?;
+        (0..many).map(|_| member(self)).collect()
     }
 }
 
@@ -170,12 +192,12 @@ fn decimal(word: &[u8]) -> Option<u64> {
     Some(number)
 }
 
-/// Lower-case hex of whole octets, or `-` for none.
-pub fn hex(word: &[u8]) -> Option<Vec<u8>> {
+/// Lower-case hex of whole octets, at most so many, or `-` for none.
+pub fn hex(word: &[u8], most: usize) -> Option<Vec<u8>> {
     if word == b"-" {
         return Some(Vec::new());
     }
-    if word.len() % 2 != 0 || word.len() / 2 > OCTETS_MOST {
+    if word.len() % 2 != 0 || word.len() / 2 > most {
         return None;
     }
     word.chunks(2)

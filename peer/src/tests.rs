@@ -5,10 +5,11 @@ use crate::cells::{
     self, cells_needed, head, interface, interface_at, link, link_at, neighbour, neighbour_at,
     record, record_at,
 };
+use crate::counts::{COUNT, ECHO, EMPTY, LISTS, NEWEST, ROWS, SHORT, STAYS, SUM, WORDS, WRAP};
 use crate::generate::generate;
 use crate::packet;
 use crate::play::{self, Ending, Lent, Player};
-use crate::script::{self, Line, BUFFER_CELLS};
+use crate::script::{self, Line, BUFFER_CELLS, LINE_MOST};
 use crate::words::{self, Counted, Link};
 use std::io;
 
@@ -90,8 +91,13 @@ fn own() -> String {
     "own 0 0 50 0 0 12 -".to_string()
 }
 
+fn octets(flags: u8, ttl: u8, number: u16, originator: u32) -> String {
+    format!("04{flags:02x}{ttl:02x}00{number:04x}0000{originator:08x}")
+}
+
 fn receive(sender: u32, flags: u8, ttl: u8, number: u16, originator: u32) -> String {
-    format!("receive 0 {sender} 0 12 04{flags:02x}{ttl:02x}00{number:04x}0000{originator:08x}")
+    let packet = octets(flags, ttl, number, originator);
+    format!("receive 0 {sender} 0 12 {packet}")
 }
 
 fn echo(sender: u32, number: u16) -> String {
@@ -241,13 +247,13 @@ fn ties_are_counted_under_their_setting() {
     feed(&mut lines, &P8);
     feed(&mut lines, &[(C, 10)]);
     follow(&mut player, &lines);
-    assert_eq!(player.ties, [2, 0]);
+    assert_eq!((player.counts.of(NEWEST), player.counts.of(STAYS)), (2, 0));
     // 9 by A ties; 10 by B leaves B below the others.
     let mut lines = with_tie(" 1");
     feed(&mut lines, &P8[..3]);
     feed(&mut lines, &[(B, 10)]);
     follow(&mut player, &lines);
-    assert_eq!(player.ties, [2, 1]);
+    assert_eq!((player.counts.of(NEWEST), player.counts.of(STAYS)), (2, 1));
 }
 
 #[test]
@@ -283,7 +289,7 @@ fn p11_distance_over_the_wrap() {
 
 #[test]
 fn p12_the_octets_of_a_header() {
-    let octets = script::hex(b"04003200012c00000a010007").unwrap();
+    let octets = script::hex(b"04003200012c00000a010007", 12).unwrap();
     let header = packet::read(&octets);
     assert_eq!((header.version, header.flags, header.ttl), (4, 0, 50));
     assert_eq!((header.number, header.originator), (300, 0x0a01_0007));
@@ -452,8 +458,9 @@ fn lines_that_cant_be_read() {
     for line in ["", "   ", "#", "  # best 1"] {
         assert_eq!(script::read(line.as_bytes()), Line::Nothing, "{line}");
     }
-    assert_eq!(script::read(&[b'#'; 8193]), Line::Unreadable);
-    assert_eq!(script::read(&[b'#'; 8192]), Line::Nothing);
+    assert_eq!(LINE_MOST, 65_536);
+    assert_eq!(script::read(&[b'#'; LINE_MOST + 1]), Line::Unreadable);
+    assert_eq!(script::read(&[b'#'; LINE_MOST]), Line::Nothing);
 }
 
 #[test]
@@ -470,6 +477,414 @@ fn a_make_line_has_18_numbers_or_a_tie_behind_them() {
     }
     let (shorter, _) = make.rsplit_once(' ').unwrap();
     assert_eq!(script::read(shorter.as_bytes()), Line::Unreadable);
+}
+
+#[test]
+fn limits_of_output_and_octets() {
+    let check = |many: usize| format!("check 4 {}", "00".repeat(many));
+    let of = |output: u64| {
+        [
+            format!("receive 0 1 0 {output} -"),
+            format!("own 0 0 50 0 0 {output} -"),
+            format!("burst 0 {output} 0 - 0 0 0"),
+        ]
+    };
+    for line in of(16_384).into_iter().chain([check(2000)]) {
+        let read = script::read(line.as_bytes());
+        assert!(matches!(read, Line::Call(_)), "{line}");
+    }
+    for line in of(16_385).into_iter().chain([check(2001)]) {
+        assert_eq!(script::read(line.as_bytes()), Line::Unreadable, "{line}");
+    }
+}
+
+/// A list of a burst: its number of members, then the members.
+fn members(list: &[u64]) -> String {
+    let mut words = vec![list.len().to_string()];
+    words.extend(list.iter().map(u64::to_string));
+    words.join(" ")
+}
+
+/// A burst with these lists, at time 0 with an output of 1,000 octets.
+fn burst_of(rows: u64, buffer: &str, lists: [&[u64]; 3]) -> String {
+    let lists = lists.map(members).join(" ");
+    format!("burst 0 1000 {rows} {buffer} {lists}")
+}
+
+/// The same, with lengths that may not fit the buffer, by A on interface 0.
+fn burst_of_lengths(buffer: &str, lengths: &[u64]) -> String {
+    let senders = vec![u64::from(A.neighbour); lengths.len()];
+    let interfaces = vec![0; lengths.len()];
+    burst_of(40, buffer, [lengths, &senders, &interfaces])
+}
+
+/// A burst of packets, each with its sender, on interface 0, with as many rows.
+fn burst(time: u64, output: u64, packets: &[(u32, String)]) -> String {
+    let buffer: String = packets.iter().map(|(_, hex)| hex.as_str()).collect();
+    let lengths = packets.iter().map(|(_, hex)| hex.len() as u64 / 2);
+    let senders = packets.iter().map(|(sender, _)| u64::from(*sender));
+    let lists = [lengths.collect(), senders.collect(), vec![0; packets.len()]];
+    let lists = lists.map(|list: Vec<u64>| members(&list)).join(" ");
+    let rows = packets.len();
+    format!("burst {time} {output} {rows} {buffer} {lists}")
+}
+
+/// A packet by A with a message of FAR, which is counted and passed on if its number is new.
+fn by_a(number: u16) -> (u32, String) {
+    (A.neighbour, octets(0, 50, number, FAR))
+}
+
+/// The same with an HNA entry, of 17 octets.
+fn longer_by_a(number: u16, mask: u8) -> (u32, String) {
+    let (sender, header) = by_a(number);
+    (sender, format!("{header}0a000000{mask:02x}"))
+}
+
+/// What a line prints for a table with rows for A, B and C.
+fn printed(line: String) -> Vec<String> {
+    let mut lines = with_rows();
+    let before = played(&lines).len();
+    lines.push(line);
+    played(&lines).split_off(before)
+}
+
+/// How many octets a burst that was taken wrote, and the numbers of its packets.
+fn outcome(line: String) -> (u64, Vec<u64>) {
+    let printed = printed(line);
+    let word = |line: &String, place| line.split(' ').nth(place).unwrap().parse::<u64>().unwrap();
+    let numbers: Vec<u64> = printed[1..].iter().map(|line| word(line, 1)).collect();
+    assert!(printed[1..].iter().all(|line| line.starts_with("packet ")));
+    assert_eq!(word(&printed[0], 1), 0);
+    assert_eq!(word(&printed[0], 2), numbers.len() as u64);
+    (word(&printed[0], 3), numbers)
+}
+
+fn assert_refused(line: String) {
+    assert_eq!(printed(line.clone()), ["burst 14 0 0 -"], "{line}");
+}
+
+/// Whether a line leaves every cell of a table as it was.
+fn changes_nothing(line: String) -> bool {
+    let mut lines = with_rows();
+    feed(&mut lines, &[(A, 300)]);
+    lines.push("sweep 5".to_string());
+    let before = cells_after(&lines);
+    lines.push(line);
+    cells_after(&lines) == before
+}
+
+#[test]
+fn a_burst_prints_its_copies_and_a_line_for_each_packet() {
+    // The place is counted within its packet.
+    let mut masks = longer_by_a(301, 24);
+    masks.1 += "0b00000021";
+    let packets = [by_a(300), masks, by_a(302)];
+    let lines = [
+        "burst 0 3 24 04003100012c00000000006304003100012e000000000063",
+        "packet 26 0 0 10 0 1 8",
+        "packet 8 1 0 0 0 0 0",
+        "packet 26 0 0 10 0 2 8",
+    ];
+    assert_eq!(printed(burst(0, 100, &packets)), lines);
+}
+
+#[test]
+fn a_burst_is_its_packets_as_single_calls() {
+    // 13 has no row before its echo; then a message, twice, others by A, and 13 once more.
+    let packets = [
+        (13, octets(0, 50, 299, FAR)),
+        (13, octets(64, 49, 7, 1)),
+        (13, octets(0, 50, 300, FAR)),
+        (13, octets(0, 50, 300, FAR)),
+        by_a(300),
+        by_a(301),
+        by_a(200),
+        (13, octets(0, 1, 201, FAR)),
+        (FAR, octets(0, 50, 202, FAR)),
+    ];
+    let mut bursts = with_rows();
+    bursts.push(burst(5, 1000, &packets));
+    let mut singles = with_rows();
+    let single = |(sender, hex): &(u32, String)| format!("receive 0 {sender} 5 1000 {hex}");
+    singles.extend(packets.iter().map(single));
+    let (mut answers, mut written) = (Vec::new(), String::new());
+    for line in &played(&singles)[with_rows().len() - 1..] {
+        let (fields, octets) = line.rsplit_once(' ').unwrap();
+        answers.push(fields.replacen("receive", "packet", 1));
+        written += octets.trim_matches('-');
+    }
+    let printed = played(&bursts);
+    assert_eq!(printed[printed.len() - packets.len()..], answers);
+    let first = format!("burst 0 {} {} {written}", packets.len(), written.len() / 2);
+    assert_eq!(printed[printed.len() - packets.len() - 1], first);
+    assert_eq!(cells_after(&bursts), cells_after(&singles));
+}
+
+#[test]
+fn an_echo_counts_for_the_packets_behind_it() {
+    let message = |number| (13, octets(0, 50, number, FAR));
+    let echo = (13, octets(64, 49, 7, 1));
+    let answers = printed(burst(0, 100, &[message(300), echo, message(300)]));
+    assert_eq!(answers[1], "packet 25 0 0 0 0 0 0");
+    assert_eq!(answers[2], "packet 22 0 0 0 0 0 0");
+    assert_eq!(answers[3], "packet 26 0 0 13 0 1 8");
+}
+
+#[test]
+fn lists_of_unequal_length_are_refused() {
+    // Every three lists of up to 3 members; the lengths fit the buffer.
+    for (lengths, senders, interfaces) in (0..64).map(|n| (n / 16, n / 4 % 4, n % 4)) {
+        let buffer = match lengths {
+            0 => "-".to_string(),
+            _ => by_a(300).1.repeat(lengths),
+        };
+        let lists = [vec![12; lengths], vec![10; senders], vec![0; interfaces]];
+        let line = burst_of(40, &buffer, [&lists[0], &lists[1], &lists[2]]);
+        if lengths == senders && senders == interfaces {
+            assert_eq!(outcome(line).1.len(), lengths);
+        } else {
+            assert_refused(line);
+        }
+    }
+}
+
+#[test]
+fn the_thirty_third_packet_is_refused() {
+    let packets: Vec<(u32, String)> = (300..333).map(by_a).collect();
+    let (written, numbers) = outcome(burst(0, 1000, &packets[..32]));
+    assert_eq!((written, numbers), (32 * 12, vec![26; 32]));
+    assert_refused(burst(0, 1000, &packets));
+}
+
+#[test]
+fn fewer_answer_rows_than_packets_are_refused() {
+    let buffer = by_a(300).1.repeat(3);
+    let with = |rows| burst_of(rows, &buffer, [&[12; 3], &[10; 3], &[0; 3]]);
+    for rows in [0, 2] {
+        assert_refused(with(rows));
+    }
+    for rows in [3, 4, 40] {
+        assert_eq!(outcome(with(rows)).1.len(), 3);
+    }
+}
+
+#[test]
+fn lengths_that_miss_the_buffer_are_refused() {
+    let buffer = by_a(300).1.repeat(2);
+    assert_eq!(outcome(burst_of_lengths(&buffer, &[12, 12])).0, 24);
+    assert_eq!(outcome(burst_of_lengths(&buffer, &[24, 0])).1, [7, 5]);
+    for lengths in [[12, 11], [12, 13], [11, 12], [13, 12], [0, 0], [24, 24]] {
+        assert_refused(burst_of_lengths(&buffer, &lengths));
+    }
+    assert_refused(burst_of_lengths(&buffer, &[]));
+    assert_refused(burst_of_lengths("-", &[1]));
+}
+
+#[test]
+fn a_sum_beyond_64_bits_does_not_fit() {
+    let buffer = by_a(300).1.repeat(2);
+    let half = 1 << 63;
+    let wrapping: [&[u64]; 6] = [
+        &[u64::MAX, 25],
+        &[25, u64::MAX],
+        &[12, u64::MAX - 11, 24],
+        &[half, half + 24],
+        &[half, half, 12, 12],
+        &[u64::MAX, u64::MAX, 26],
+    ];
+    for lengths in wrapping {
+        let sum = lengths
+            .iter()
+            .fold(0, |sum: u64, one| sum.wrapping_add(*one));
+        assert_eq!(sum, 24);
+        assert_refused(burst_of_lengths(&buffer, lengths));
+    }
+    // A sum of 32 bits would fit here.
+    assert_refused(burst_of_lengths(&buffer, &[12 + (1 << 32), 12]));
+    assert_refused(burst_of_lengths("-", &[half, half]));
+}
+
+#[test]
+fn a_refused_burst_changes_nothing() {
+    let buffer = by_a(301).1;
+    let lines = [
+        format!("burst 9 1000 40 {buffer} 1 12 1 10 2 0 0"),
+        format!("burst 9 1000 0 {buffer} 1 12 1 10 1 0"),
+        format!("burst 9 1000 40 {buffer} 1 11 1 10 1 0"),
+        burst(9, 1000, &vec![by_a(301); 33]),
+    ];
+    for line in lines {
+        assert_refused(line.clone());
+        assert!(changes_nothing(line.clone()), "{line}");
+    }
+    assert!(!changes_nothing(burst(9, 1000, &[by_a(301)])));
+}
+
+#[test]
+fn each_packet_has_the_rest_of_the_output() {
+    let packets = [by_a(300), by_a(301), by_a(302)];
+    assert_eq!(outcome(burst(0, 36, &packets)), (36, vec![26, 26, 26]));
+    assert_eq!(outcome(burst(0, 35, &packets)), (24, vec![26, 26, 4]));
+    assert_eq!(outcome(burst(0, 24, &packets)), (24, vec![26, 26, 4]));
+    assert_eq!(outcome(burst(0, 12, &packets)), (12, vec![26, 4, 4]));
+    assert_eq!(outcome(burst(0, 11, &packets)), (0, vec![4, 4, 4]));
+}
+
+#[test]
+fn a_packet_that_is_not_passed_on_leaves_the_rest_as_it_was() {
+    let kept = (A.neighbour, octets(0, 1, 301, FAR));
+    let packets = [by_a(300), kept.clone(), kept, by_a(302)];
+    assert_eq!(outcome(burst(0, 24, &packets)), (24, vec![26, 25, 25, 26]));
+    // It needs the room all the same.
+    assert_eq!(outcome(burst(0, 12, &packets)), (12, vec![26, 4, 4, 4]));
+}
+
+#[test]
+fn a_shorter_packet_fits_where_a_longer_one_did_not() {
+    let packets = [by_a(300), longer_by_a(301, 24), by_a(302), by_a(303)];
+    assert_eq!(outcome(burst(0, 53, &packets)), (53, vec![26; 4]));
+    assert_eq!(outcome(burst(0, 28, &packets)), (24, vec![26, 4, 26, 4]));
+    assert_eq!(outcome(burst(0, 24, &packets)), (24, vec![26, 4, 26, 4]));
+    assert_eq!(outcome(burst(0, 29, &packets)), (29, vec![26, 26, 4, 4]));
+}
+
+#[test]
+fn after_a_refused_packet_the_next_goes_on() {
+    let other_version = (A.neighbour, by_a(301).1.replacen("04", "05", 1));
+    let ragged = (A.neighbour, by_a(302).1 + "00");
+    let short = (A.neighbour, "04".to_string());
+    let none = (A.neighbour, String::new());
+    let long = (A.neighbour, "04".repeat(1473));
+    let masks = longer_by_a(303, 33);
+    let packets = [other_version, ragged, short, none, long, masks, by_a(304)];
+    let numbers = vec![6, 7, 5, 5, 5, 8, 26];
+    assert_eq!(outcome(burst(0, 1473, &packets)), (12, numbers));
+    // Interface 1 is not in use.
+    let lists: [&[u64]; 3] = [&[12, 12], &[10, 10], &[1, 0]];
+    let buffer = by_a(300).1.repeat(2);
+    assert_eq!(outcome(burst_of(2, &buffer, lists)), (12, vec![2, 26]));
+}
+
+#[test]
+fn a_burst_before_the_tables_time_has_each_packet_refused() {
+    let mut lines = with_rows();
+    lines.push("sweep 5".to_string());
+    lines.push(burst(4, 100, &[by_a(300), by_a(301)]));
+    let row = "packet 3 0 0 0 0 0 0";
+    assert_eq!(played(&lines).split_off(6), ["burst 0 2 0 -", row, row]);
+}
+
+#[test]
+fn a_burst_sets_the_time_if_a_packet_does() {
+    let spoilt = (A.neighbour, by_a(300).1.replacen("04", "05", 1));
+    for (packets, sweep) in [
+        (vec![spoilt.clone()], "sweep 0 0"),
+        (vec![spoilt, by_a(300)], "sweep 3 0"),
+    ] {
+        let mut lines = with_rows();
+        lines.push(burst(9, 100, &packets));
+        lines.push("sweep 8".to_string());
+        assert_eq!(last(&lines), sweep);
+    }
+}
+
+#[test]
+fn a_burst_of_no_packets_is_taken_and_leaves_the_table() {
+    for time in [0, 4, 5, 6, u64::MAX] {
+        for line in [
+            format!("burst {time} 0 0 - 0 0 0"),
+            format!("burst {time} 1000 40 - 0 0 0"),
+        ] {
+            assert_eq!(printed(line.clone()), ["burst 0 0 0 -"], "{line}");
+            assert!(changes_nothing(line.clone()), "{line}");
+        }
+    }
+    assert_refused("burst 0 0 0 04 0 0 0".to_string());
+}
+
+#[test]
+fn a_burst_needs_a_table_before_all_else() {
+    let packet = by_a(300).1;
+    for line in [
+        format!("burst 0 100 1 {packet} 1 12 1 10 1 0"),
+        format!("burst 0 100 0 {packet} 1 11 0 2 0 0"),
+        "burst 0 0 0 - 0 0 0".to_string(),
+    ] {
+        let mut lines = with_rows();
+        lines.extend([format!("poke {} 0", head::WINDOW), line.clone()]);
+        assert_eq!(last(&lines), "burst 1 0 0 -", "{line}");
+        assert_eq!(played(&[line.clone()]), ["burst 1 0 0 -"], "{line}");
+    }
+}
+
+#[test]
+fn burst_lines_and_their_limits() {
+    let zeros = |many: usize| members(&vec![0; many]);
+    let lists = |lengths, senders, interfaces| {
+        let lists = [lengths, senders, interfaces].map(zeros).join(" ");
+        format!("burst 0 0 40 - {lists}")
+    };
+    let buffer = |many: usize| format!("burst 0 0 1 {} 1 {many} 1 1 1 0", "00".repeat(many));
+    let most = u64::MAX;
+    let readable = [
+        "burst 0 16384 40 - 0 0 0".to_string(),
+        format!("burst {most} 0 0 - 1 {most} 1 4294967295 1 {most}"),
+        lists(40, 40, 40),
+        lists(0, 40, 3),
+        buffer(16_384),
+    ];
+    for line in readable {
+        let read = script::read(line.as_bytes());
+        assert!(matches!(read, Line::Call(_)), "{line}");
+    }
+    let unreadable = [
+        "burst 0 16385 40 - 0 0 0".to_string(),
+        "burst 0 0 41 - 0 0 0".to_string(),
+        lists(41, 40, 40),
+        lists(40, 41, 40),
+        lists(40, 40, 41),
+        buffer(16_385),
+        "burst 0 0 0 - 0 0".to_string(),
+        "burst 0 0 0 - 0 0 0 0".to_string(),
+        "burst 0 0 0 - 0 0 1".to_string(),
+        "burst 0 0 0 - 0 1 4294967296 0".to_string(),
+        "burst 0 0 0 - 1 18446744073709551616 0 0".to_string(),
+        "burst 0 0 0 - 1 x 0 0".to_string(),
+        "burst 0 0 0 0 0 0 0".to_string(),
+    ];
+    for line in unreadable {
+        assert_eq!(script::read(line.as_bytes()), Line::Unreadable, "{line}");
+    }
+}
+
+#[test]
+fn what_bursts_met_is_counted() {
+    let packet = by_a(300).1;
+    let echo = (13, octets(64, 49, 7, 1));
+    let message = (13, octets(0, 50, 300, FAR));
+    let cases: [(&[&str], String); 11] = [
+        (&[LISTS], format!("burst 0 100 1 {packet} 1 12 1 10 0")),
+        (&[COUNT], burst(0, 100, &vec![by_a(300); 33])),
+        (&[ROWS], format!("burst 0 100 0 {packet} 1 12 1 10 1 0")),
+        (&[SUM], format!("burst 0 100 1 {packet} 1 13 1 10 1 0")),
+        (&[SUM, WRAP], burst_of_lengths(&packet, &[u64::MAX, 13])),
+        (&[], format!("burst 0 100 0 {packet} 1 13 1 10 1 0")),
+        (
+            &[SHORT],
+            burst(0, 24, &[by_a(300), longer_by_a(301, 0), by_a(302)]),
+        ),
+        (&[], burst(0, 16, &[longer_by_a(301, 0), by_a(302)])),
+        (&[EMPTY], "burst 1 0 0 - 0 0 0".to_string()),
+        (&[], "burst 0 0 0 - 0 0 0".to_string()),
+        (&[ECHO], burst(0, 100, &[echo, message])),
+    ];
+    for (words, line) in cases {
+        let mut player = Player::new();
+        follow(&mut player, &with_rows());
+        follow(&mut player, &[line.clone()]);
+        let met = WORDS.iter().filter(|word| player.counts.of(word) > 0);
+        assert_eq!(met.copied().collect::<Vec<_>>(), words, "{line}");
+    }
 }
 
 /// Plays lines that print what they may.
@@ -625,10 +1040,13 @@ fn cells_may_break_and_be_mended() {
 #[test]
 fn a_table_without_a_history_ends_the_play() {
     for (index, value) in [(head::TIME, 9), (head::TIE, NEWEST_WINS)] {
-        let mut lines = with_rows();
-        lines.extend([format!("poke {index} {value}"), "best 1".to_string()]);
-        let (ending, _) = play_script(&lines);
-        assert!(matches!(ending, Ending::Outside(8)));
+        let lines = with_rows();
+        for line in ["best 1", "burst 0 0 0 - 0 0 0", "burst 0 0 0 - 1 0 0 0"] {
+            let mut lines = lines.clone();
+            lines.extend([format!("poke {index} {value}"), line.to_string()]);
+            let (ending, _) = play_script(&lines);
+            assert!(matches!(ending, Ending::Outside(8)));
+        }
     }
 }
 
@@ -703,13 +1121,15 @@ fn best_by_the_list_is_best_step_by_step() {
 }
 
 #[test]
-fn generated_scripts_tie_under_both_settings() {
+fn generated_scripts_meet_what_is_counted() {
     let mut script = Vec::new();
     generate(1, 20_000, &mut script).unwrap();
     let mut player = Player::new();
     let ending = play::play(&mut player, &mut script.as_slice(), &mut io::sink(), false);
     assert!(matches!(ending, Ok(Ending::Whole)));
-    assert!(player.ties.iter().all(|ties| *ties > 100));
+    for word in WORDS {
+        assert!(player.counts.of(word) > 20, "{word}");
+    }
 }
 
 #[test]

@@ -54,3 +54,7 @@ bool untouched_from(const struct lent *l, size_t from)
 {
     return from <= l->length && all_untouched((struct span){l->octets + from, l->length - from}) && all_untouched(around(l));
 }
+
+void *lend_copy(struct lent *l, const void *octets, size_t length) { return memcpy(lend(l, length), octets, length); }
+
+bool is_copy(const struct lent *l, const void *octets) { return memcmp(l->octets, octets, l->length) == 0 && untouched_from(l, l->length); }

@@ -28,4 +28,10 @@ void *lend(struct lent *l, size_t length);
 /* Whether the lent octets from this one on, and those around the lent ones, are still UNTOUCHED. */
 bool untouched_from(const struct lent *l, size_t from);
 
+/* Lends a copy of these octets. */
+void *lend_copy(struct lent *l, const void *octets, size_t length);
+
+/* Whether the lent octets are these, and those around them still UNTOUCHED. */
+bool is_copy(const struct lent *l, const void *octets);
+
 #endif

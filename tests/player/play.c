@@ -13,7 +13,8 @@ struct player {
     uint64_t buffer[BUFFER_CELLS];
     size_t count;
     unsigned long line;
-    struct lent cells, octets, output, rows;
+    struct lent cells, octets, output, links;
+    struct lent lengths, senders, interfaces, answers; /* of a burst */
 };
 
 static void expect(const struct player *p, bool holds, const char *what)
@@ -27,33 +28,24 @@ static void expect(const struct player *p, bool holds, const char *what)
 
 /* ---- what is lent, and what must be as it was after the call */
 
-static uint64_t *lend_cells(struct player *p)
-{
-    uint64_t *cells = lend(&p->cells, p->count * sizeof *cells);
-    memcpy(cells, p->buffer, p->count * sizeof *cells);
-    return cells;
-}
-
-static const uint8_t *lend_octets(struct player *p, const struct line *l)
-{
-    uint8_t *octets = lend(&p->octets, l->length);
-    memcpy(octets, l->octets, l->length);
-    return octets;
-}
+static uint64_t *lend_cells(struct player *p) { return lend_copy(&p->cells, p->buffer, p->count * sizeof *p->buffer); }
+static const uint8_t *lend_octets(struct player *p, const struct line *l) { return lend_copy(&p->octets, l->octets, l->length); }
 
 static void octets_kept(const struct player *p, const struct line *l)
 {
-    expect(p, memcmp(p->octets.octets, l->octets, l->length) == 0, "an octet that was given has changed");
-    expect(p, untouched_from(&p->octets, l->length), "an octet beside those given has changed");
+    expect(p, is_copy(&p->octets, l->octets), "an octet that was given, or one beside them, has changed");
 }
 
-static void cells_kept(const struct player *p)
+static void cells_kept(const struct player *p) { expect(p, is_copy(&p->cells, p->buffer), "a cell, or an octet beside the lent ones, has changed"); }
+
+static void lists_kept(const struct player *p, const struct burst_lists *l)
 {
-    expect(p, memcmp(p->cells.octets, p->buffer, p->cells.length) == 0, "a cell has changed");
-    expect(p, untouched_from(&p->cells, p->cells.length), "an octet beside the lent cells has changed");
+    expect(p, is_copy(&p->lengths, l->lengths), "a length, or an octet beside the lent ones, has changed");
+    expect(p, is_copy(&p->senders, l->senders), "a sender, or an octet beside the lent ones, has changed");
+    expect(p, is_copy(&p->interfaces, l->interfaces), "an interface, or an octet beside the lent ones, has changed");
 }
 
-static bool is_refusal(uint64_t number) { return number >= BATMAN_NOT_WELL_FORMED && number <= BATMAN_TTL_TOO_LOW; }
+static bool is_refusal(uint64_t number) { return number >= BATMAN_NOT_WELL_FORMED && number <= BATMAN_WRONG_BURST; }
 
 /* The cells as the call left them; a refused one leaves them as they were. */
 static void take_cells(struct player *p, uint64_t number)
@@ -68,6 +60,13 @@ static void take_cells(struct player *p, uint64_t number)
 static void print_route(struct batman_route r)
 {
     printf(" %" PRIu32 " %" PRIu32 " %" PRIu32 " %" PRIu32, r.neighbour, r.interface, r.count, r.window);
+}
+
+/* The answer to one packet, behind the line's first word. */
+static void print_received(struct batman_received r)
+{
+    printf(" %" PRIu64 " %" PRIu64 " %u", r.number, r.place, (unsigned)r.flags);
+    print_route(r.route);
 }
 
 /* The first octets of the output end a line, `-` for none; those behind them are as they were. */
@@ -95,9 +94,55 @@ static void play_receive(struct player *p, const struct line *l)
                                               lend(&p->output, l->room), l->room);
     take_cells(p, r.number);
     octets_kept(p, l);
-    printf("receive %" PRIu64 " %" PRIu64 " %u", r.number, r.place, (unsigned)r.flags);
-    print_route(r.route);
+    printf("receive");
+    print_received(r);
     print_written(p, r.number == BATMAN_PASSED_ON ? l->length : 0);
+}
+
+static struct batman_burst call_burst(struct player *p, const struct line *l, struct batman_received *answers)
+{
+    const struct burst_lists *given = &l->lists;
+    const uint64_t *lengths = lend_copy(&p->lengths, given->lengths, given->lengths_count * sizeof *lengths);
+    const uint32_t *senders = lend_copy(&p->senders, given->senders, given->senders_count * sizeof *senders);
+    const uint64_t *interfaces = lend_copy(&p->interfaces, given->interfaces, given->interfaces_count * sizeof *interfaces);
+    return batman_receive_burst(lend_cells(p), p->count, lend_octets(p, l), l->length, lengths, given->lengths_count, senders, given->senders_count,
+                                interfaces, given->interfaces_count, l->time, lend(&p->output, l->room), l->room, answers, l->rows);
+}
+
+/* The octets of all packets that are passed on. */
+static uint64_t octets_passed_on(const struct batman_received *answers, const uint64_t *lengths, size_t packets)
+{
+    uint64_t sum = 0;
+    for (size_t i = 0; i < packets; i++)
+        sum += answers[i].number == BATMAN_PASSED_ON ? lengths[i] : 0;
+    return sum;
+}
+
+static void print_packets(const struct batman_received *answers, size_t packets)
+{
+    for (size_t i = 0; i < packets; i++) {
+        printf("packet");
+        print_received(answers[i]);
+        putchar('\n');
+    }
+}
+
+static void play_burst(struct player *p, const struct line *l)
+{
+    struct batman_received *answers = lend(&p->answers, l->rows * sizeof *answers);
+    struct batman_burst b = call_burst(p, l, answers);
+    size_t packets = b.number == 0 ? l->lists.lengths_count : 0;
+    expect(p, packets <= l->rows, "a burst of more packets than rows is not refused");
+    expect(p, untouched_from(&p->answers, packets * sizeof *answers), "an octet behind the answers has changed");
+    expect(p, b.written == octets_passed_on(answers, l->lists.lengths, packets), "the copies have another number of octets than written");
+    lists_kept(p, &l->lists);
+    octets_kept(p, l);
+    if (packets == 0) /* not even the time */
+        cells_kept(p);
+    take_cells(p, b.number);
+    printf("burst %" PRIu64 " %zu %" PRIu64, b.number, packets, b.written);
+    print_written(p, (size_t)b.written);
+    print_packets(answers, packets);
 }
 
 static void play_own(struct player *p, const struct line *l)
@@ -128,11 +173,11 @@ static void play_best(struct player *p, const struct line *l)
 
 static void play_list(struct player *p, const struct line *l)
 {
-    struct batman_link_row *rows = lend(&p->rows, l->room * sizeof *rows);
-    struct batman_listed a = batman_list(lend_cells(p), p->count, l->address, rows, l->room);
+    struct batman_link_row *rows = lend(&p->links, l->rows * sizeof *rows);
+    struct batman_listed a = batman_list(lend_cells(p), p->count, l->address, rows, l->rows);
     cells_kept(p);
-    expect(p, a.filled <= l->room, "more rows are filled than were lent");
-    expect(p, untouched_from(&p->rows, (size_t)a.filled * sizeof *rows), "an octet behind the rows filled has changed");
+    expect(p, a.filled <= l->rows, "more rows are filled than were lent");
+    expect(p, untouched_from(&p->links, (size_t)a.filled * sizeof *rows), "an octet behind the rows filled has changed");
     printf("list %" PRIu64 " %" PRIu64 "\n", a.number, a.filled);
     for (uint64_t i = 0; i < a.filled; i++)
         printf("row %" PRIu32 " %" PRIu32 " %" PRIu32 " %" PRIu32 " %" PRIu32 "\n", rows[i].neighbour, rows[i].interface, rows[i].count,
@@ -162,6 +207,7 @@ static void play(struct player *p, const struct line *l)
     case CELLS: p->count = l->cells; break;
     case MAKE: play_make(p, l); break;
     case RECEIVE: play_receive(p, l); break;
+    case BURST: play_burst(p, l); break;
     case OWN: play_own(p, l); break;
     case SWEEP: play_sweep(p, l); break;
     case BEST: play_best(p, l); break;
@@ -191,12 +237,16 @@ int main(void)
 {
     static struct player p = {.count = BUFFER_CELLS};
     static struct line line;
-    char text[LINE_MOST + 1];
+    static char text[LINE_MOST + 1];
     size_t length;
     open_lent(&p.cells, sizeof p.buffer);
-    open_lent(&p.octets, OCTETS_MOST);
+    open_lent(&p.octets, sizeof line.octets);
     open_lent(&p.output, OUTPUT_MOST);
-    open_lent(&p.rows, ROWS_MOST * sizeof(struct batman_link_row));
+    open_lent(&p.links, LINKS_MOST * sizeof(struct batman_link_row));
+    open_lent(&p.lengths, sizeof line.lists.lengths);
+    open_lent(&p.senders, sizeof line.lists.senders);
+    open_lent(&p.interfaces, sizeof line.lists.interfaces);
+    open_lent(&p.answers, ANSWERS_MOST * sizeof(struct batman_received));
     while (next_line(text, &length)) {
         p.line++;
         read_line(text, length, &line);

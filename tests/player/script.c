@@ -42,6 +42,34 @@ static void read_receive(struct words *w, struct line *l)
     read_output_and_octets(w, l);
 }
 
+/* A list: its number of members, then these. Answers the number. */
+static size_t read_members(struct words *w, uint64_t members[MEMBERS_MOST])
+{
+    size_t count = (size_t)read_number(w, MEMBERS_MOST);
+    for (size_t i = 0; i < count; i++)
+        members[i] = any_number(w);
+    return count;
+}
+
+static size_t read_addresses(struct words *w, uint32_t members[MEMBERS_MOST])
+{
+    size_t count = (size_t)read_number(w, MEMBERS_MOST);
+    for (size_t i = 0; i < count; i++)
+        members[i] = address(w);
+    return count;
+}
+
+static void read_burst(struct words *w, struct line *l)
+{
+    l->time = any_number(w);
+    l->room = (size_t)read_number(w, OUTPUT_MOST);
+    l->rows = (size_t)read_number(w, ANSWERS_MOST);
+    l->length = read_octets(w, l->octets, BURST_OCTETS_MOST);
+    l->lists.lengths_count = read_members(w, l->lists.lengths);
+    l->lists.senders_count = read_addresses(w, l->lists.senders);
+    l->lists.interfaces_count = read_members(w, l->lists.interfaces);
+}
+
 static void read_own(struct words *w, struct line *l)
 {
     l->interface = any_number(w);
@@ -58,7 +86,7 @@ static void read_best(struct words *w, struct line *l) { l->address = address(w)
 static void read_list(struct words *w, struct line *l)
 {
     l->address = address(w);
-    l->room = (size_t)read_number(w, ROWS_MOST);
+    l->rows = (size_t)read_number(w, LINKS_MOST);
 }
 
 static void read_check(struct words *w, struct line *l)
@@ -80,9 +108,9 @@ static const struct {
     enum line_kind kind;
     void (*read)(struct words *w, struct line *l);
 } calls[] = {
-    {"size", SIZE, read_size},    {"cells", CELLS, read_cells}, {"make", MAKE, read_make}, {"receive", RECEIVE, read_receive},
-    {"own", OWN, read_own},       {"sweep", SWEEP, read_sweep}, {"best", BEST, read_best}, {"list", LIST, read_list},
-    {"check", CHECK, read_check}, {"poke", POKE, read_poke},    {"dump", DUMP, read_dump},
+    {"size", SIZE, read_size},    {"cells", CELLS, read_cells}, {"make", MAKE, read_make},    {"receive", RECEIVE, read_receive},
+    {"burst", BURST, read_burst}, {"own", OWN, read_own},       {"sweep", SWEEP, read_sweep}, {"best", BEST, read_best},
+    {"list", LIST, read_list},    {"check", CHECK, read_check}, {"poke", POKE, read_poke},    {"dump", DUMP, read_dump},
 };
 
 /* The kind of a line that begins with this word, its arguments read. */

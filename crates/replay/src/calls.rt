@@ -1,12 +1,15 @@
 // The calls of a script: each is made on the lent cells, and its answer is put behind the `used` octets of a text.
 use batman::Interfaces;
 use script_answers::put_asked;
+use script_answers::put_burst;
 use script_answers::put_cells;
 use script_answers::put_one;
+use script_answers::put_packets;
 use script_answers::put_received;
 use script_answers::put_rows;
 use script_answers::put_two;
 use script_answers::put_written;
+use script_lines::bursts::Lists;
 use script_lines::names::Call;
 use script_lines::requests::OUTPUT_MOST;
 use script_lines::tables::rows_of;
@@ -16,6 +19,7 @@ use script_numbers::address;
 use script_numbers::octet;
 use script_numbers::sequence;
 ghost use Rattle.script_octets.specs.Octets.{Fits};
+ghost use Rattle.script_lines.specs.Bursts.{Lendable};
 
 // Each octet of an output before a call.
 const FILLER: u8 = 238;
@@ -61,6 +65,65 @@ fn receive(
 ) -> usize {
     let mut out = [FILLER; OUTPUT_MOST];
     receive_into(v, packet, cells, &mut out, text, used)
+}
+
+// A burst, with its output.
+fn burst_into(
+    v: &[u64; NUMBERS_MOST],
+    octets: &[u8],
+    lengths: &[u64],
+    senders: &[u32],
+    interfaces: &[u64],
+    cells: &mut [u64],
+    out: &mut [u8],
+    text: &mut [u8],
+    used: usize,
+) -> usize {
+    let n = room(v[1], out);
+    let r = call_burst::burst(
+        cells,
+        octets,
+        lengths,
+        senders,
+        interfaces,
+        v[0],
+        &mut out[..n],
+        v[2] as usize,
+    );
+    let rows = r.rows;
+    let a = put_burst(text, used, r.number, r.n as u64, r.written, out);
+    put_packets(text, a, rows, r.n)
+}
+
+// A burst. Of each list its members are lent.
+pub fn burst(
+    v: &[u64; NUMBERS_MOST],
+    octets: &[u8],
+    lists: Lists,
+    cells: &mut [u64],
+    text: &mut [u8],
+    used: usize,
+) -> usize
+    requires { ⌜ Lendable lists ⌝ }
+{
+    let mut out = [FILLER; OUTPUT_MOST];
+    let lengths = lists.lengths;
+    let senders = lists.senders;
+    let interfaces = lists.interfaces;
+    let nl = lists.nl;
+    let ns = lists.ns;
+    let ni = lists.ni;
+    burst_into(
+        v,
+        octets,
+        &lengths[..nl],
+        &senders[..ns],
+        &interfaces[..ni],
+        cells,
+        &mut out,
+        text,
+        used,
+    )
 }
 
 // An own packet, with its output.

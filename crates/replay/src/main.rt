@@ -12,7 +12,7 @@ use script_lines::requests::CELLS_MOST;
 // How many octets are read at once, and how many a line has at most.
 const PIECE: usize = 65536;
 
-const LINE_MOST: usize = 8192;
+const LINE_MOST: usize = 65536;
 
 // How many octets a cell's line has at most: `cell`, a space and 5 digits, a space and 20 digits, and the line end.
 const CELL_LINE: usize = 32;

@@ -1,12 +1,19 @@
 // Lines: put together from the pieces that are read, and each answered.
+use crate::calls::burst;
 use crate::calls::make_call;
 use libc::STDOUT_FILENO;
 use script_answers::put_one;
+use script_lines::bursts;
+use script_lines::bursts::BUFFER_MOST;
 use script_lines::gather;
 use script_lines::names::Call;
+use script_lines::requests;
+use script_lines::requests::Named;
 use script_lines::requests::PACKET_MOST;
-use script_lines::requests::read;
+use script_lines::requests::name_of;
 use script_numbers::NUMBERS_MOST;
+ghost use Prim.Native.Nat.{_≤_};
+ghost use lib.ListN.{length};
 ghost use Rattle.script_octets.specs.Octets.{Fits};
 
 const LINE_END: u8 = b'\n';
@@ -99,14 +106,45 @@ fn obey(
     }
 }
 
-// Reads a line, and does what it asks for.
-fn answer(line: &[u8], cells: &mut [u64], text: &mut [u8], s: Session) -> Session {
+// Reads a call's arguments, behind its name, and does what it asks for.
+fn answer_call(name: Named, line: &[u8], cells: &mut [u64], text: &mut [u8], s: Session) -> Session
+    requires { ⌜ name .end ≤ length (now line) ⌝ }
+{
     let mut packet = [0u8; PACKET_MOST];
-    let request = read(line, &mut packet);
-    let call = request.call;
+    let call = name.call;
+    let request = requests::read(call, line, name.end, &mut packet);
+    let asked = request.call;
     let v = request.value;
     let n = request.octets;
-    obey(call, &v, &packet[..n], cells, text, s)
+    obey(asked, &v, &packet[..n], cells, text, s)
+}
+
+// The same for a burst, whose arguments begin from `at` on.
+fn answer_burst(line: &[u8], at: usize, cells: &mut [u64], text: &mut [u8], s: Session) -> Session
+    requires { ⌜ at ≤ length (now line) ⌝ }
+{
+    let mut buffer = [0u8; BUFFER_MOST];
+    let b = bursts::read(line, at, &mut buffer);
+    if !b.good {
+        return unread(text, s);
+    }
+    let v = b.value;
+    let octets = b.octets;
+    let lists = b.lists;
+    let n = lent(s.lent, cells);
+    with_used(
+        s,
+        burst(&v, &buffer[..octets], lists, &mut cells[..n], text, s.used),
+    )
+}
+
+// Does what a line asks for.
+fn answer(line: &[u8], cells: &mut [u64], text: &mut [u8], s: Session) -> Session {
+    let name = name_of(line);
+    if name.burst {
+        return answer_burst(line, name.end, cells, text, s);
+    }
+    answer_call(name, line, cells, text, s)
 }
 
 // Writes out what the text holds.

@@ -6,6 +6,7 @@ use rules::Received;
 use rules::Route;
 use rules::Written;
 use rules::limits::LINKS_MOST;
+use rules::limits::PACKETS_MOST;
 use rules::verdicts::PASSED_ON;
 use script_text::put_line_end;
 use script_text::put_number;
@@ -14,6 +15,9 @@ use script_text::put_word;
 
 // The most rows that a list call fills.
 const ROWS_MOST: usize = LINKS_MOST as usize;
+
+// The most packets that a burst answers for.
+const PACKETS: usize = PACKETS_MOST as usize;
 
 // A word and a number.
 pub fn put_one(text: &mut [u8], used: usize, word: &[u8], number: u64) -> usize {
@@ -52,13 +56,53 @@ fn copied(number: u64, length: usize) -> u64 {
     }
 }
 
+// What is answered to a packet, alone or of a burst: number, place, the flags for the other interfaces, and the route.
+fn put_verdict(text: &mut [u8], used: usize, word: &[u8], r: Received) -> usize {
+    let a = put_begun(text, used, word, r.number, r.place);
+    let b = put_number(text, a, r.flags as u64);
+    put_route(text, b, r.route)
+}
+
 // The answer to a received packet of `length` octets, with the output as it was left.
 pub fn put_received(text: &mut [u8], used: usize, r: Received, length: usize, out: &[u8]) -> usize {
-    let a = put_begun(text, used, b"receive", r.number, r.place);
-    let b = put_number(text, a, r.flags as u64);
-    let c = put_route(text, b, r.route);
-    let d = put_octets(text, c, out, copied(r.number, length));
-    put_line_end(text, d)
+    let a = put_verdict(text, used, b"receive", r);
+    let b = put_octets(text, a, out, copied(r.number, length));
+    put_line_end(text, b)
+}
+
+// The answer to a burst of `n` packets, with the output as it was left.
+pub fn put_burst(
+    text: &mut [u8],
+    used: usize,
+    number: u64,
+    n: u64,
+    written: u64,
+    out: &[u8],
+) -> usize {
+    let a = put_begun(text, used, b"burst", number, n);
+    let b = put_number(text, a, written);
+    let c = put_octets(text, b, out, written);
+    put_line_end(text, c)
+}
+
+// A packet of a burst.
+fn put_packet(text: &mut [u8], used: usize, r: Received) -> usize {
+    let a = put_verdict(text, used, b"packet", r);
+    put_line_end(text, a)
+}
+
+// The first `n` packets of a burst.
+pub fn put_packets(text: &mut [u8], used: usize, rows: [Received; PACKETS], n: usize) -> usize {
+    let mut at = used;
+    let mut i = 0;
+    while i < PACKETS {
+        if i == n {
+            break;
+        }
+        at = put_packet(text, at, rows[i]);
+        i += 1;
+    }
+    at
 }
 
 // How many octets of an own packet are in the output.

@@ -1,4 +1,5 @@
 // Lines of a script: put together from the pieces that are read, and each read as a call with its arguments.
+pub mod bursts;
 pub mod names;
 pub mod requests;
 pub mod tables;

@@ -13,6 +13,7 @@ use script_numbers::only_numbers;
 use script_numbers::read_numbers;
 use script_octets::last_octets;
 use script_words::next_word;
+use script_words::same;
 ghost use mathlib.Core.Path.{_≡_};
 ghost use Prim.Native.Nat.{_≤_};
 ghost use lib.ListN.{length};
@@ -25,15 +26,37 @@ pub const CELLS_MOST: usize = 66560;
 
 pub const PACKET_MOST: usize = 2000;
 
-pub const OUTPUT_MOST: usize = 4096;
+pub const OUTPUT_MOST: usize = 16384;
 
 const ROWS_MOST: u64 = 16;
+
+// The call that a line names, whether it is a burst, and where the name ends.
+pub struct Named {
+    pub call: Call,
+    pub burst: bool,
+    pub end: usize,
+}
 
 // A call, its numbers, and how many octets it carries.
 pub struct Request {
     pub call: Call,
     pub value: [u64; NUMBERS_MOST],
     pub octets: usize,
+}
+
+// The call that the first word of a line names.
+pub fn name_of(line: &[u8]) -> Named
+    ensures { λ r. ⌜ r .end ≤ length (now (line .entry)) ⌝ }
+{
+    let word = next_word(line, 0);
+    let start = word.start;
+    let end = word.end;
+    let call = line_of(&line[start..end]);
+    Named {
+        call,
+        burst: same(&line[start..end], b"burst"),
+        end,
+    }
 }
 
 // A line without arguments.
@@ -158,8 +181,8 @@ fn of_octets(call: Call, line: &[u8], at: usize, limits: &[u64], packet: &mut [u
     }
 }
 
-// A call with its arguments, which begin from `at` on.
-fn with_arguments(call: Call, line: &[u8], at: usize, packet: &mut [u8]) -> Request
+// A call with its arguments, which begin from `at` on. The octets that it carries are put into the packet.
+pub fn read(call: Call, line: &[u8], at: usize, packet: &mut [u8]) -> Request
     requires { ⌜ at ≤ length (now line) ⌝ }
     ensures { λ r. ⌜ Fits (now (packet .exit)) (r .octets) ⌝ }
 {
@@ -187,15 +210,4 @@ fn with_arguments(call: Call, line: &[u8], at: usize, packet: &mut [u8]) -> Requ
         Call::Unread => bare(call),
         _ => of_numbers(call, line, at),
     }
-}
-
-// What a line asks for. The octets that a call carries are put into the packet.
-pub fn read(line: &[u8], packet: &mut [u8]) -> Request
-    ensures { λ r. ⌜ Fits (now (packet .exit)) (r .octets) ⌝ }
-{
-    let word = next_word(line, 0);
-    let start = word.start;
-    let end = word.end;
-    let call = line_of(&line[start..end]);
-    with_arguments(call, line, end, packet)
 }

@@ -1,13 +1,17 @@
-// Decimal numbers: one word, and the numbers with which a call's arguments begin.
+// Decimal numbers: one word, the numbers with which a call's arguments begin, and lists of numbers.
 use script_words::is_finished;
 use script_words::next_word;
 ghost use mathlib.Core.Path.{_≡_};
-ghost use Prim.Native.Nat.{_%_, _≤_};
-ghost use lib.ListN.{length, drop};
+ghost use mathlib.Core.Bool.{false};
+ghost use Prim.Native.Nat.{ℕ, _%_, _≤_, _<_};
+ghost use lib.ListN.{length, drop, getD};
 ghost use Rattle.script_numbers.specs.Numbers as N;
 
-// The most numbers that a call takes.
-pub const NUMBERS_MOST: usize = 19;
+// The most numbers that are read in a row: a list's members.
+pub const NUMBERS_MOST: usize = 40;
+
+// As the limit of the number that says how many members a list has.
+const MEMBERS_MOST: u64 = NUMBERS_MOST as u64;
 
 // The largest number of 64, 32, 16 and 8 bits.
 pub const MOST_64: u64 = 18446744073709551615;
@@ -33,6 +37,22 @@ pub enum Number {
 // The numbers read, and where the last one ended. `good` is false where one could not be read.
 pub struct Numbers {
     pub value: [u64; NUMBERS_MOST],
+    pub end: usize,
+    pub good: bool,
+}
+
+// A list's members, how many there are, and where the list ended. `good` is false where it could not be read.
+pub struct Members {
+    pub value: [u64; NUMBERS_MOST],
+    pub count: usize,
+    pub end: usize,
+    pub good: bool,
+}
+
+// The same for a list of addresses.
+pub struct Addresses {
+    pub value: [u32; NUMBERS_MOST],
+    pub count: usize,
     pub end: usize,
     pub good: bool,
 }
@@ -120,6 +140,41 @@ pub fn only_numbers(line: &[u8], at: usize, limits: &[u64]) -> Numbers
     }
 }
 
+// No members, of a list that could not be read from `at` on.
+fn no_members(at: usize) -> Members
+    ensures { λ r. ⌜ (r .count ≡ 0) × (r .end ≡ at) × (r .good ≡ false) × (length (r .value) ≡ N.numbersMost) ⌝ }
+{
+    Members {
+        value: [0u64; NUMBERS_MOST],
+        count: 0,
+        end: at,
+        good: false,
+    }
+}
+
+// A list: how many members it has, and the members, each of at most `most`.
+pub fn read_list(line: &[u8], at: usize, most: u64) -> Members
+    requires { ⌜ at ≤ length (now line) ⌝ }
+    ensures { λ r. ⌜ N.ReadList (drop at (now (line .entry))) most (now (line .entry)) (r .value) (r .count) (r .end) (r .good) ⌝ }
+{
+    let sizes = [MEMBERS_MOST];
+    let size = read_numbers(line, at, &sizes);
+    if !size.good {
+        return no_members(size.end);
+    }
+    let sized = size.value;
+    let count = sized[0] as usize;
+    let limits = [most; NUMBERS_MOST];
+    let members = read_numbers(line, size.end, &limits[..count]);
+    let value = members.value;
+    Members {
+        value,
+        count,
+        end: members.end,
+        good: members.good,
+    }
+}
+
 // Numbers in their own types. Each was read with its type's limit, so nothing is cut off.
 pub fn address(value: u64) -> u32
     ensures { λ r. ⌜ r ≡ value % 4294967296 ⌝ }
@@ -137,4 +192,33 @@ pub fn octet(value: u64) -> u8
     ensures { λ r. ⌜ r ≡ value % 256 ⌝ }
 {
     (value % (MOST_8 + 1)) as u8
+}
+
+// Members in the type of addresses.
+fn narrow(value: &[u64; NUMBERS_MOST]) -> [u32; NUMBERS_MOST]
+    ensures { λ r. ⌜ (length r ≡ N.numbersMost) × ((k : ℕ) → k < N.numbersMost → getD r k 0 ≡ getD (now (value .entry)) k 0 % 4294967296) ⌝ }
+{
+    let mut addresses = [0u32; NUMBERS_MOST];
+    let mut i = 0;
+    while i < NUMBERS_MOST {
+        addresses[i] = address(value[i]);
+        i += 1;
+    }
+    addresses
+}
+
+// A list of addresses.
+pub fn read_addresses(line: &[u8], at: usize) -> Addresses
+    requires { ⌜ at ≤ length (now line) ⌝ }
+    ensures { λ r. ⌜ N.ReadList (drop at (now (line .entry))) N.most32 (now (line .entry)) (r .value) (r .count) (r .end) (r .good) ⌝ }
+{
+    let members = read_list(line, at, MOST_32);
+    let wide = members.value;
+    let value = narrow(&wide);
+    Addresses {
+        value,
+        count: members.count,
+        end: members.end,
+        good: members.good,
+    }
 }

@@ -12,8 +12,9 @@ use borrow.Author.Count.{below-more}
 use borrow.Author.Tests.{le-leb, lt-leb, leb-true, eqb-true, eqb-false}
 use Rattle.script_octets.specs.declared.Digit.{Digit}
 use Rattle.script_octets.specs.declared.Digit.the-variants.{Is, Bad}
-use Rattle.script_octets.specs.Octets.{noOctets, digitOf, both, octetOf, octetAt, Are, Fits, Pairs, Says, Unsayable, ReadOctets, LastOctets}
+use Rattle.script_octets.specs.Octets.{noOctets, digitOf, both, octetOf, octetAt, Are, Fits, Pairs, Says, Unsayable, ReadOctets, ReadNext, LastOctets}
 use Rattle.script_octets.specs.declared.Octets.{Octets}
+use Rattle.script_octets.specs.declared.NextOctets.{NextOctets}
 use Rattle.script_words.specs.Words.{fromWord, NextWord}
 use Rattle.script_words.proofs.Laws.{word-between}
 
@@ -95,22 +96,33 @@ pairs-read w out r n e p =
       refused = λ t. inr (inr (inr (p .refused t)));
     }
 
--- ---- the last word of a line
+-- ---- the next word of a line, and the last
 
-module _ (line out : List ℕ) (at start end : ℕ) (r : Octets) (b : Bool) (w : NextWord line at start end) where
-  pub none-last : r .count ≡ 0 → r .good ≡ false → (fromWord (drop end line) ≡ [] → b ≡ true) → b ≡ false → LastOctets (drop at line) out r
-  none-last z f h n =
+-- what is read of the octets between a word's ends is read of the word
+pub next-read : (line out : List ℕ) (at start end : ℕ) (o : Octets) → NextWord line at start end → ReadOctets (take (end - start) (drop start line)) out o → ReadNext (drop at line) line out (record { count = o .count; end = end; good = o .good })
+next-read line out at start end o w r =
+    let e = word-between line (fromWord (drop at line)) start end (w .ordered) (w .within) (w .begins) (w .ends) in
+    record {
+      fits = r .fits;
+      within = w .within;
+      ends = w .ends;
+      read = λ g. subst (λ (x : List ℕ). Says x out (o .count)) e (r .read g);
+      refused = λ g. subst (λ (x : List ℕ). Unsayable x (length out)) e (r .refused g);
+    }
+
+module _ (xs line out : List ℕ) (m : NextOctets) (r : Octets) (b : Bool) (n : ReadNext xs line out m) where
+  pub none-last : r .count ≡ 0 → r .good ≡ false → (fromWord (drop (m .end) line) ≡ [] → b ≡ true) → b ≡ false → LastOctets xs out r
+  none-last z f h t =
       record {
         fits = fits out (r .count) (omega arith);
-        read = λ t. let y : _≡_ {A = ℕ} 0 1 = cc in absurd (omega arith);
-        refused = λ t. inr (λ e. let u = h (ap fromWord (w .ends) ∙ e) in let y : _≡_ {A = ℕ} 0 1 = cc in omega arith);
+        read = λ g. let y : _≡_ {A = ℕ} 0 1 = cc in absurd (omega arith);
+        refused = λ g. inr (λ e. let u = h (ap fromWord (n .ends) ∙ e) in let y : _≡_ {A = ℕ} 0 1 = cc in omega arith);
       }
 
-  pub last-read : (b ≡ true → fromWord (drop end line) ≡ []) → b ≡ true → ReadOctets (take (end - start) (drop start line)) out r → LastOctets (drop at line) out r
-  last-read f t o =
-      let e = word-between line (fromWord (drop at line)) start end (w .ordered) (w .within) (w .begins) (w .ends) in
+  pub last-read : r .count ≡ m .count → r .good ≡ m .good → (b ≡ true → fromWord (drop (m .end) line) ≡ []) → b ≡ true → LastOctets xs out r
+  last-read c d f t =
       record {
-        fits = o .fits;
-        read = λ g. (subst (λ (x : List ℕ). Says x out (r .count)) e (o .read g), ap fromWord (sym (w .ends)) ∙ f t);
-        refused = λ g. inl (subst (λ (x : List ℕ). Unsayable x (length out)) e (o .refused g));
+        fits = rw c (n .fits);
+        read = λ g. (rw c (n .read (sym d ∙ g)), ap fromWord (sym (n .ends)) ∙ f t);
+        refused = λ g. inl (n .refused (sym d ∙ g));
       }

@@ -5,10 +5,11 @@ use mathlib.Core.Bool.{true, false, cond, _&&_}
 use mathlib.Core.List.{List, [], _∷_}
 use mathlib.Core.Logic.{_⊎_}
 use lib.Dec.{leb}
-use lib.ListN.{length, take, getD}
+use lib.ListN.{length, take, drop, getD}
 use Rattle.script_octets.specs.declared.Digit.{Digit}
 use Rattle.script_octets.specs.declared.Digit.the-variants.{Is, Bad}
 use Rattle.script_octets.specs.declared.Octets.{Octets}
+use Rattle.script_octets.specs.declared.NextOctets.{NextOctets}
 use Rattle.script_words.specs.Words.{fromWord, nextOf, afterNext}
 
 -- `-`
@@ -58,6 +59,14 @@ pub record ReadOctets (word out : List ℕ) (r : Octets) : Type 0 where
   pub fits : Fits out (r .count)
   pub read : r .good ≡ true → Says word out (r .count)
   pub refused : r .good ≡ false → Unsayable word (length out)
+
+-- the next word of `xs`, the end of a line, says these octets
+pub record ReadNext (xs line out : List ℕ) (r : NextOctets) : Type 0 where
+  pub fits : Fits out (r .count)
+  pub within : r .end ≤ length line
+  pub ends : drop (r .end) line ≡ afterNext xs
+  pub read : r .good ≡ true → Says (nextOf xs) out (r .count)
+  pub refused : r .good ≡ false → Unsayable (nextOf xs) (length out)
 
 -- the next word of `xs`, the end of a line, says these octets, and no word follows
 pub record LastOctets (xs out : List ℕ) (r : Octets) : Type 0 where

@@ -23,6 +23,13 @@ pub struct Octets {
     pub good: bool,
 }
 
+// The same of a line's next word, and where this word ends.
+pub struct NextOctets {
+    pub count: usize,
+    pub end: usize,
+    pub good: bool,
+}
+
 // The value of `0` to `9` and `a` to `f`.
 fn digit_of(letter: u8) -> Digit
     ensures { λ r. ⌜ r ≡ O.digitOf letter ⌝ }
@@ -107,16 +114,33 @@ fn read_octets(word: &[u8], out: &mut [u8]) -> Octets
     pairs(word, out)
 }
 
+// The octets of a line's next word, which begins from `at` on.
+pub fn next_octets(line: &[u8], at: usize, out: &mut [u8]) -> NextOctets
+    requires { ⌜ at ≤ length (now line) ⌝ }
+    ensures { λ r. ⌜ O.ReadNext (drop at (now (line .entry))) (now (line .entry)) (now (out .exit)) r ⌝ }
+{
+    let word = next_word(line, at);
+    let start = word.start;
+    let end = word.end;
+    let octets = read_octets(&line[start..end], out);
+    NextOctets {
+        count: octets.count,
+        end,
+        good: octets.good,
+    }
+}
+
 // The octets of a line's last word, which begins from `at` on.
 pub fn last_octets(line: &[u8], at: usize, out: &mut [u8]) -> Octets
     requires { ⌜ at ≤ length (now line) ⌝ }
     ensures { λ r. ⌜ O.LastOctets (drop at (now (line .entry))) (now (out .exit)) r ⌝ }
 {
-    let word = next_word(line, at);
-    let start = word.start;
-    let end = word.end;
-    if !is_finished(line, end) {
+    let next = next_octets(line, at, out);
+    if !is_finished(line, next.end) {
         return unreadable();
     }
-    read_octets(&line[start..end], out)
+    Octets {
+        count: next.count,
+        good: next.good,
+    }
 }

@@ -5,6 +5,7 @@ use super::Generator;
 use crate::book::{Receive, INTERFACES_MOST};
 use crate::packet::{self, Header, DIRECT, HEADER_OCTETS, PACKET_MOST, UNIDIRECTIONAL};
 use crate::play;
+use crate::script::OUTPUT_MOST;
 use crate::words::{self, Link};
 
 impl Generator<'_> {
@@ -131,9 +132,11 @@ impl Generator<'_> {
 
     /// HNA octets without a fault in them.
     fn hna(&mut self) -> Vec<u8> {
+        // In a burst more lengths differ: where one copy has no room, a later one may.
+        let none = if self.gathering.is_some() { 600 } else { 820 };
         let entries = match self.random.below(1000) {
-            0..820 => 0,
-            820..960 => 1 + self.random.below(3),
+            roll if roll < none => 0,
+            ..960 => 1 + self.random.below(3),
             960..994 => 4 + self.random.below(16),
             994..997 => 292,
             _ => 286 + self.random.below(7),
@@ -187,7 +190,7 @@ impl Generator<'_> {
             120..197 => {
                 let more = length + self.random.below(4);
                 self.random
-                    .pick(&[length + 1, 1472.max(length), 4096, more])
+                    .pick(&[length + 1, 1472.max(length), OUTPUT_MOST, more])
             }
             197 => 0,
             _ => length.saturating_sub(1),
@@ -238,10 +241,14 @@ impl Generator<'_> {
         }
     }
 
-    /// Writes a receive line; each fault comes in at times, so that two meet now and then.
+    /// Writes a receive line, or gathers the packet where a burst is being made; each fault
+    /// comes in at times, so that two meet now and then.
     fn receive(&mut self, mut arrival: Receive) {
         self.spoil_packet(&mut arrival.packet);
         arrival.interface = self.spoil_interface(arrival.interface);
+        if self.gathering.is_some() {
+            return self.gather(arrival);
+        }
         arrival.time = self.spoil_time(arrival.time);
         let mut line = format!(
             "receive {} {} {} {} ",
@@ -264,6 +271,10 @@ impl Generator<'_> {
     }
 
     pub(super) fn own_on(&mut self, interface: u64) {
+        // A burst has received packets alone.
+        if self.gathering.is_some() {
+            return;
+        }
         let mut hna = self.hna();
         self.spoil_hna(&mut hna);
         if self.random.chance(5) {

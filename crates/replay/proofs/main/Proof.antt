@@ -15,7 +15,7 @@ main-spec =
     tie.close
     (tie.spec
     (λ c. zeros 65536)
-    (λ c. zeros 8192)
+    (λ c. zeros 65536)
     (λ c. zeros 66560)
     (λ c. zeros 2195456)
     (λ c κs. search needs)

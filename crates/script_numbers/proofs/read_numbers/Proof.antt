@@ -50,6 +50,7 @@ returns c =
     let i = l .loop .i in
     record {
       within = l .loop .inv .0;
+      sized = l .loop .inv .2;
       read = λ t. let e = eqb-true i (length limits) t in (l .loop .inv .3 ∙ ap (λ (k : ℕ). afterWords k xs) e, λ k h. l .loop .inv .4 k (omega arith));
       refused =
           λ t.
