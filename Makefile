@@ -59,6 +59,7 @@ c-tests:
 	@$(BUILD)/relay_filter
 	@$(TESTED) $(YARD) $(ARCHIVE) -o $(BUILD)/yard
 	@$(BUILD)/yard --columns 3 --rows 3 --rounds 12 --seed 7 | diff tests/yard.expected - && echo "yard: prints what it should"
+	@$(BUILD)/yard --columns 3 --rows 3 --rounds 12 --seed 7 --poll 20 | diff tests/yard-poll.expected - && echo "yard: prints what it should, with radios read every 20 ms"
 	@$(BUILD)/yard --svg $(BUILD)/yard.svg > $(BUILD)/yard.out && diff docs/yard.svg $(BUILD)/yard.svg
 	@$(BUILD)/yard --svg $(BUILD)/yard.svg --filter 0 > $(BUILD)/yard.out && diff docs/yard-without-filter.svg $(BUILD)/yard.svg && echo "yard: draws what README shows"
 	@$(BUILD)/yard --routes $(BUILD)/routes --advised 1 2> $(BUILD)/routes.log || { cat $(BUILD)/routes.log; exit 1; }

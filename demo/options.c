@@ -20,7 +20,7 @@ struct option {
     const char **text;          /* or for one that is a text */
 };
 
-enum { OPTIONS = 13 };
+enum { OPTIONS = 14 };
 
 static void list_options(struct options *o, struct option list[OPTIONS])
 {
@@ -35,6 +35,7 @@ static void list_options(struct options *o, struct option list[OPTIONS])
         {"--window", "N", "sequence numbers in the window, 1 to 64", 1, WINDOW_MOST, 1, &y->window, NULL},
         {"--tie", "N", "0 newest wins, 1 present link stays", BATMAN_NEWEST_WINS, BATMAN_PRESENT_STAYS, 1, &y->tie, NULL},
         {"--filter", "N", "readers of 100 that have the relay filter, 0 to 100", 0, YARD_ALL, 1, &y->filter, NULL},
+        {"--poll", "N", "ms between two readings of a radio, 0 to 1000; 0: each packet is taken as it comes", 0, YARD_INTERVAL, 1, &y->poll, NULL},
         {"--svg", "FILE", "draw the next hops towards the gate, the reader in the middle", 0, 0, 1, NULL, &o->svg},
         {"--routes", "FOLDER", "instead of one run: every setting, loss and seed, with tables and plots in FOLDER", 0, 0, 1, NULL, &o->routes},
         {"--seeds", "N", "of --routes: seeds 1 to N, 1 to 1000", 1, 1000, 1, &o->seeds, NULL},

@@ -3,6 +3,7 @@
 #include <inttypes.h>
 #include <stdio.h>
 #include <stdlib.h>
+#include <string.h>
 
 enum { INTERFACE = 0, TTL = 50, NO_GATEWAY = 0, NO_PORT = 0, BROADCAST = 0x0a00ffff };
 
@@ -55,45 +56,95 @@ size_t reader_own(struct reader *r, uint64_t now, const uint8_t *hna, size_t hna
     }
 }
 
-size_t reader_receive(struct reader *r, uint64_t now, uint32_t sender, const uint8_t *packet, size_t length, uint8_t *out, size_t room)
+/* A daemon has recvfrom write to in->octets + in->length, with room for BATMAN_READ_SIZE octets. A longer datagram is cut as recvfrom cuts it: it is still
+ * too long for a packet. */
+static void put_in(struct reader_inbox *in, uint32_t sender, const uint8_t *packet, size_t length)
 {
-    if (r->filters && relay_filter_drops(&r->filter, packet, length, now)) { /* what we passed on, come back or by a longer way */
+    size_t read = length < BATMAN_READ_SIZE ? length : BATMAN_READ_SIZE;
+    memcpy(in->octets + in->length, packet, read);
+    in->length += read;
+    in->lengths[in->packets] = read;
+    in->senders[in->packets] = sender;
+    in->interfaces[in->packets] = INTERFACE;
+    in->packets++;
+}
+
+bool reader_hear(struct reader *r, uint64_t now, uint32_t sender, const uint8_t *packet, size_t length)
+{
+    if (r->filters && relay_filter_drops(&r->filter, packet, length, now)) /* what we passed on, come back or by a longer way */
         r->dropped++;
-        return 0;
+    else if (r->inbox.packets < BATMAN_PACKETS_MOST) /* what a full inbox doesn't take is a packet lost */
+        put_in(&r->inbox, sender, packet, length);
+    return r->inbox.packets == BATMAN_PACKETS_MOST;
+}
+
+static void hand_over(struct reader *r, uint64_t now, struct reader_outbox *out, struct batman_received answers[BATMAN_PACKETS_MOST])
+{
+    const struct reader_inbox *in = &r->inbox;
+    struct batman_burst b = batman_receive_burst(r->cells, r->count, in->octets, in->length, in->lengths, in->packets, in->senders, in->packets,
+                                                 in->interfaces, in->packets, now, out->octets, sizeof out->octets, answers, BATMAN_PACKETS_MOST);
+    switch (b.number) {
+    case 0: break;
+    case BATMAN_NOT_WELL_FORMED: /* the table is damaged: a daemon logs it and makes a new one */
+    case BATMAN_WRONG_BURST: /* the inbox's lists, lengths and the rows don't fit each other: no packet can bring that about */
+    default: stop(r, "a burst", b.number);
     }
-    struct batman_received a = batman_receive(r->cells, r->count, packet, length, sender, INTERFACE, now, out, room);
+    r->bursts++;
+    r->most_packets = in->packets > r->most_packets ? in->packets : r->most_packets;
+}
+
+/* Does what the answer to one packet asks for. Answers whether the packet goes on the air again. */
+static bool handle_answer(struct reader *r, struct batman_received a)
+{
     if (a.number < READER_ANSWERS)
         r->answers[a.number]++;
     switch (a.number) {
-    case BATMAN_NOT_WELL_FORMED: /* the table is damaged: a daemon logs it and makes a new one */
     case BATMAN_NOT_IN_USE: /* an interface that make was not given */
     case BATMAN_TIME_BEFORE: /* the clock went back: take a monotonic one */
         stop(r, "a received packet", a.number);
-    case BATMAN_SHORT_OUTPUT: /* longer than the output: a stranger's long datagram must end nothing, so lend as much as was read, and drop it */
+    case BATMAN_SHORT_OUTPUT: /* longer than what is left of the output: doesn't come up where that is as long as the inbox */
     case BATMAN_WRONG_SIZE: /* too short or too long for an originator message */
     case BATMAN_WRONG_VERSION: /* another version of the protocol */
     case BATMAN_RAGGED_ENTRIES: /* HNA octets that are no whole entries */
     case BATMAN_WRONG_MASK: /* a mask above 32, in entry a.place */
-        return 0; /* anyone can send such octets: drop them, and log no more than now and then */
+        return false; /* anyone can send such octets: drop them, and log no more than now and then */
     case BATMAN_NEIGHBOURS_FULL: /* 32 neighbours are held: this one stays unidirectional until another falls silent */
     case BATMAN_ORIGINATORS_FULL: /* the table is full: drop it; a daemon sweeps if it has not for long, or makes a larger table */
     case BATMAN_LINKS_FULL: /* eight other links to this originator are held: one more is not needed */
-        return 0;
+        return false;
     case BATMAN_OWN_SENDER: /* our own transmission, heard by ourselves */
     case BATMAN_OWN_BROADCAST: /* no sender has a broadcast address: forged, or a broken network stack */
     case BATMAN_ECHO: /* our last packet came back: from now on this neighbour's link counts as bidirectional */
     case BATMAN_OWN_ORIGINATOR: /* our own packet by a longer way, or an older one */
     case BATMAN_UNIDIRECTIONAL: /* its sender had it over a link that works in one direction only: it says nothing of a way back */
-        return 0;
+        return false;
     case BATMAN_KEPT: /* taken: a daemon compares a.route with the kernel's route to the originator, and changes that where they differ */
-        return 0;
+        return false;
     case BATMAN_PASSED_ON: /* as 25, and it goes on the air; with more interfaces and relay_filter_goes_elsewhere, on those with a.flags as octet 1 */
-        if (r->filters)
-            relay_filter_passed_on(&r->filter, out, length, now);
-        return length;
+        return true;
     default: /* a number that this header doesn't know */
         stop(r, "a received packet", a.number);
     }
+}
+
+/* Of each packet that is passed on the copy stands in the output behind those before it, as long as the packet. */
+void reader_take(struct reader *r, uint64_t now, struct reader_outbox *out)
+{
+    struct reader_inbox *in = &r->inbox;
+    struct batman_received answers[BATMAN_PACKETS_MOST];
+    const uint8_t *copy = out->octets;
+    out->packets = 0;
+    if (in->packets > 0)
+        hand_over(r, now, out, answers);
+    for (size_t i = 0; i < in->packets; i++) {
+        if (!handle_answer(r, answers[i]))
+            continue;
+        if (r->filters)
+            relay_filter_passed_on(&r->filter, copy, in->lengths[i], now);
+        copy += in->lengths[i];
+        out->lengths[out->packets++] = in->lengths[i];
+    }
+    in->length = in->packets = 0;
 }
 
 uint64_t reader_sweep(struct reader *r, uint64_t now)

@@ -275,6 +275,8 @@ static void write_table(const struct options *o)
             "*Sends*: how often each reader sends each message. *Neighbours again*, *all again*: a reader in the middle dies after these rounds, and so many rounds later %.0f of 100 known routes of its\n"
             "neighbours, and of all readers, arrive.\n",
             o->yard.columns, o->yard.rows, o->rounds, o->seeds, routes_back);
+    if (o->yard.poll > 0)
+        fprintf(f, "Radios are read every %" PRIu64 " ms.\n", o->yard.poll);
     for (unsigned yard = 0; yard < YARDS; yard++)
         print_measures(f, o, yard);
     if (ferror(f) || fclose(f) != 0)

@@ -59,6 +59,20 @@ static void print_answers(const struct yard *y)
     }
 }
 
+/* Where each packet is taken as it comes, this says nothing new: every burst has one. */
+static void print_bursts(const struct yard *y)
+{
+    unsigned long bursts = 0, most = 0;
+    if (y->settings.poll == 0)
+        return;
+    for (unsigned i = 0; i < y->readers; i++) {
+        const struct reader *r = &y->reader[i];
+        bursts += r->bursts;
+        most = r->most_packets > most ? r->most_packets : most;
+    }
+    printf("handed over in %lu bursts of at most %lu packets\n", bursts, most);
+}
+
 static void print_routes(const struct yard *y, unsigned from)
 {
     printf("\nroutes of reader %u, %s\n%-16s %-16s %9s  %s\n", from, dotted(yard_address(y, from)).text, "destination", "next hop", "interface", "counted");
@@ -107,6 +121,7 @@ void run_yard(const struct options *o)
     print_head(&y);
     play(&y, o->rounds);
     print_answers(&y);
+    print_bursts(&y);
     print_routes(&y, y.readers - 1);
     if (o->svg != NULL)
         draw(o->svg, &y);

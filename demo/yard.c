@@ -3,6 +3,7 @@
 #include <inttypes.h>
 #include <stdio.h>
 #include <stdlib.h>
+#include <string.h>
 
 #include "random.h"
 
@@ -71,6 +72,9 @@ void yard_describe(const struct yard *y, char words[YARD_WORDS])
         snprintf(words, YARD_WORDS, "window %" PRIu64 ", %s, %s the relay filter", s->window, tie, s->filter > 0 ? "with" : "without");
     else
         snprintf(words, YARD_WORDS, "window %" PRIu64 ", %s, the relay filter in %" PRIu64 " of 100 readers", s->window, tie, s->filter);
+    size_t used = strlen(words);
+    if (s->poll > 0)
+        snprintf(words + used, YARD_WORDS - used, ", radios read every %" PRIu64 " ms", s->poll);
 }
 
 void yard_close(struct yard *y)
@@ -100,24 +104,39 @@ static void give_turns(struct yard *y)
             transmit(y, y->now + random_below(&y->radio.random, YARD_INTERVAL), i, none, 0);
 }
 
-/* The own packet is written when it goes on the air, and not before: only the last one's echo counts. */
+/* A reader takes what its radio has heard; each packet that it passes on waits a random time from then. */
+static void read_radio(struct yard *y, struct yard_traffic *t, uint64_t time, unsigned reader)
+{
+    struct reader_outbox out;
+    reader_take(&y->reader[reader], time, &out);
+    const uint8_t *copy = out.octets;
+    for (size_t i = 0; i < out.packets; copy += out.lengths[i++])
+        transmit(y, time + random_below(&y->radio.random, YARD_DELAY + 1), reader, copy, out.lengths[i]);
+    t->passed_on += out.packets;
+}
+
+/* The own packet is written when it goes on the air, and not before: only the last one's echo counts. So what was heard until then is taken first. */
 static void take_turn(struct yard *y, struct yard_traffic *t, struct transmission *turn)
 {
     size_t announced = turn->sender == yard_gate(y) ? sizeof outside : 0;
+    read_radio(y, t, turn->time, turn->sender);
     turn->length = reader_own(&y->reader[turn->sender], turn->time, outside, announced, turn->octets, sizeof turn->octets);
     t->own++;
 }
 
+static void read_radios(struct yard *y, struct yard_traffic *t, uint64_t time)
+{
+    for (unsigned i = 0; i < y->readers; i++)
+        if (!y->dead[i])
+            read_radio(y, t, time, i);
+}
+
 static void hear(struct yard *y, struct yard_traffic *t, const struct transmission *sent, unsigned receiver)
 {
-    uint8_t out[RADIO_OCTETS];
-    uint32_t sender = yard_address(y, sent->sender);
-    size_t length = reader_receive(&y->reader[receiver], sent->time, sender, sent->octets, sent->length, out, sizeof out);
+    bool full = reader_hear(&y->reader[receiver], sent->time, yard_address(y, sent->sender), sent->octets, sent->length);
     t->heard++;
-    if (length > 0) {
-        transmit(y, sent->time + random_below(&y->radio.random, YARD_DELAY + 1), receiver, out, length);
-        t->passed_on++;
-    }
+    if (full || y->settings.poll == 0)
+        read_radio(y, t, sent->time, receiver);
 }
 
 static void sweep_all(struct yard *y)
@@ -139,17 +158,38 @@ static void on_air(struct yard *y, struct yard_traffic *t, const struct transmis
     }
 }
 
+/* Everything that goes on the air before `end`. */
+static void play_until(struct yard *y, struct yard_traffic *t, uint64_t end)
+{
+    struct transmission sent;
+    while (radio_next(&y->radio, end, &sent)) {
+        if (sent.length == 0)
+            take_turn(y, t, &sent);
+        on_air(y, t, &sent);
+    }
+}
+
+/* The same, with the radios read at each multiple of `poll` after now, up to `end`. */
+static void play_and_read_until(struct yard *y, struct yard_traffic *t, uint64_t end)
+{
+    uint64_t poll = y->settings.poll;
+    for (uint64_t time = (y->now / poll + 1) * poll; time <= end; time += poll) {
+        play_until(y, t, time);
+        read_radios(y, t, time);
+    }
+    play_until(y, t, end);
+}
+
 struct yard_traffic yard_round(struct yard *y)
 {
     struct yard_traffic t = {0, 0, 0, 0};
-    struct transmission sent;
+    uint64_t end = y->now + YARD_INTERVAL;
     give_turns(y);
-    y->now += YARD_INTERVAL;
-    while (radio_next(&y->radio, y->now, &sent)) {
-        if (sent.length == 0)
-            take_turn(y, &t, &sent);
-        on_air(y, &t, &sent);
-    }
+    if (y->settings.poll > 0)
+        play_and_read_until(y, &t, end);
+    else
+        play_until(y, &t, end);
+    y->now = end;
     if (++y->rounds % SWEEP_EVERY == 0)
         sweep_all(y);
     return t;

@@ -19,6 +19,7 @@ struct yard_settings {
     uint64_t columns, rows, neighbours, loss, seed; /* neighbours: RADIO_BESIDE or RADIO_AROUND */
     uint64_t window, tie;                           /* of every reader's table */
     uint64_t filter;                                /* how many of 100 readers have the relay filter */
+    uint64_t poll;                                  /* ms between two readings of a radio; 0: each packet is taken as it comes */
 };
 
 /* Where the hops from a reader lead when each reader on the way follows its own route. */

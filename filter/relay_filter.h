@@ -38,11 +38,12 @@ struct relay_filter {
  * is taken as 1, one above RELAY_FILTER_NUMBERS as that. */
 void relay_filter_clear(struct relay_filter *f, uint64_t window, uint64_t purge);
 
-/* Before batman_receive, with the same packet and time: whether to drop the packet, without calling batman_receive. */
+/* Before batman_receive, with the same packet and time: whether to drop the packet, without calling batman_receive. Of a burst, before the packet goes into it. */
 bool relay_filter_drops(const struct relay_filter *f, const uint8_t *packet, size_t length, uint64_t time);
 
-/* After batman_receive said 26, with the copy in its output and the same time. A copy with U set is not remembered: it came over a link of one direction,
- * by which no route can lead, so a longer way to its originator may be the only one. Where it came in, those who hear it drop it. */
+/* After batman_receive said 26, with the copy in its output and the same time; after a burst, of each packet that got 26, with its own copy. A copy
+ * with U set is not remembered: it came over a link of one direction, by which no route can lead, so a longer way to its originator may be the only one.
+ * Where it came in, those who hear it drop it. */
 void relay_filter_passed_on(struct relay_filter *f, const uint8_t *copy, size_t length, uint64_t time);
 
 /* After batman_receive said 26: whether the copies for the other interfaces are sent too. Not those of a copy with U set: U is 0 in them, so that nodes

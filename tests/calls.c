@@ -1,5 +1,7 @@
 /* Calls every function of the library, with every refusal and every verdict at least once, and compares with what the rules say. */
 #include <inttypes.h>
+#include <stdbool.h>
+#include <stddef.h>
 #include <stdio.h>
 #include <stdlib.h>
 #include <string.h>
@@ -152,11 +154,20 @@ enum { US = 100, US_TOO = 101, BROADCAST = 255, ORIGINATORS = 2, SMALL = BATMAN_
 static uint64_t small[SMALL], small_kept[SMALL];
 static uint8_t output[BATMAN_PACKET_MOST];
 
+struct message {
+    uint8_t octets[BATMAN_HEADER_SIZE];
+};
+
+static struct message message(uint32_t originator, uint16_t number, uint8_t flags, uint8_t ttl)
+{
+    return (struct message){{4, flags, ttl, 0, (uint8_t)(number >> 8), (uint8_t)number, 0, 0, 0, 0, (uint8_t)(originator >> 8), (uint8_t)originator}};
+}
+
 /* Hears a message of 12 octets by interface 0 at time 9. */
 static struct batman_received hear(uint32_t sender, uint32_t originator, uint16_t number, uint8_t flags, uint8_t ttl)
 {
-    uint8_t packet[BATMAN_HEADER_SIZE] = {4, flags, ttl, 0, (uint8_t)(number >> 8), (uint8_t)number, 0, 0, 0, 0, (uint8_t)(originator >> 8), (uint8_t)originator};
-    return batman_receive(small, SMALL, packet, sizeof packet, sender, 0, 9, output, sizeof output);
+    struct message m = message(originator, number, flags, ttl);
+    return batman_receive(small, SMALL, m.octets, sizeof m.octets, sender, 0, 9, output, sizeof output);
 }
 
 /* Makes the table with these settings and sends our first packet. */
@@ -255,6 +266,7 @@ static void judged_alike(void)
     expect("a changed table, receive", batman_receive(small, SMALL, packet, sizeof packet, 7, UINT64_MAX, 9, output, sizeof output).number, not_in_use);
     expect("a changed table, own packet", batman_own_packet(small, SMALL, UINT64_MAX, 9, 50, 0, 0, NULL, 0, output, sizeof output).number, not_in_use);
     expect("a changed table, sweep", batman_sweep(small, SMALL, 0).number, best ? best : small[TIME_AT] > 0 ? BATMAN_TIME_BEFORE : 0);
+    expect("a changed table, burst", batman_receive_burst(small, SMALL, NULL, 0, NULL, 0, NULL, 0, NULL, 0, 9, NULL, 0, NULL, 0).number, best);
     expect("a changed table is changed further", memcmp(small, small_kept, sizeof small) != 0, 0);
 }
 
@@ -370,11 +382,353 @@ static void ties(void)
     }
 }
 
+/* ---- bursts */
+
+enum { BURST_MOST = BATMAN_PACKETS_MOST + 1, BURST_OCTETS = 2048, BURST_AT = 20 };
+
+/* What is lent to a burst call, the table aside. */
+struct burst {
+    uint8_t octets[BURST_OCTETS];
+    size_t length;
+    uint64_t lengths[BURST_MOST], interfaces[BURST_MOST];
+    uint32_t senders[BURST_MOST];
+    size_t lengths_count, senders_count, interfaces_count;
+    uint64_t time;
+    uint8_t output[BURST_OCTETS];
+    size_t room;
+    struct batman_received answers[BURST_MOST];
+    size_t rows;
+};
+
+/* No packets yet, at the table's time; output and rows are as large as can be. */
+static struct burst no_packets(void)
+{
+    struct burst b;
+    memset(&b, 238, sizeof b);
+    b.length = b.lengths_count = b.senders_count = b.interfaces_count = 0;
+    b.time = BURST_AT;
+    b.room = sizeof b.output;
+    b.rows = BURST_MOST;
+    return b;
+}
+
+static void add_packet(struct burst *b, uint32_t sender, uint64_t interface, const uint8_t *packet, size_t length)
+{
+    memcpy(b->octets + b->length, packet, length);
+    b->length += length;
+    b->lengths[b->lengths_count++] = length;
+    b->senders[b->senders_count++] = sender;
+    b->interfaces[b->interfaces_count++] = interface;
+}
+
+/* A message with zero octets behind it, `length` in all. */
+static void add_message(struct burst *b, uint32_t sender, struct message m, size_t length)
+{
+    uint8_t packet[BURST_OCTETS] = {0};
+    memcpy(packet, m.octets, sizeof m.octets);
+    add_packet(b, sender, 0, packet, length);
+}
+
+static struct batman_burst give(struct burst *b)
+{
+    return batman_receive_burst(small, SMALL, b->octets, b->length, b->lengths, b->lengths_count, b->senders, b->senders_count, b->interfaces,
+                                b->interfaces_count, b->time, b->output, b->room, b->answers, b->rows);
+}
+
+/* The burst is answered by this number, and nothing that is lent changes. */
+static void unchanged(const char *what, struct burst b, uint64_t number)
+{
+    struct burst before;
+    memcpy(&before, &b, sizeof b); /* padding too */
+    memcpy(small_kept, small, sizeof small);
+    struct batman_burst a = give(&b);
+    expect(what, seen(a.number), number);
+    expect("octets written of it", a.written, 0);
+    expect("a cell, an octet or a row was changed by it", memcmp(small, small_kept, sizeof small) != 0 || memcmp(&b, &before, sizeof b) != 0, 0);
+}
+
+/* Refused by 14, and by 1 where the table is damaged as well. */
+static void wrong_burst(const char *what, struct burst b)
+{
+    unchanged(what, b, BATMAN_WRONG_BURST);
+    small[VERSION_AT] = 256;
+    unchanged(what, b, BATMAN_NOT_WELL_FORMED);
+    small[VERSION_AT] = 4;
+}
+
+/* Two packets of 12 and 17 octets. */
+static struct burst two_packets(void)
+{
+    struct burst b = no_packets();
+    add_message(&b, 1, message(900, 1, 0, 50), 12);
+    add_message(&b, 2, message(900, 1, 0, 50), 17);
+    return b;
+}
+
+static void lists_unequal(void)
+{
+    struct burst b = two_packets();
+    wrong_burst("a length too many", (b.lengths[2] = 0, b.lengths_count = 3, b)), b = two_packets();
+    wrong_burst("a length too few", (b.lengths[0] = 29, b.lengths_count = 1, b)), b = two_packets();
+    wrong_burst("a sender too many", (b.senders_count = 3, b)), b = two_packets();
+    wrong_burst("a sender too few", (b.senders_count = 1, b)), b = two_packets();
+    wrong_burst("no senders", (b.senders_count = 0, b)), b = two_packets();
+    wrong_burst("an interface too many", (b.interfaces_count = 3, b)), b = two_packets();
+    wrong_burst("an interface too few", (b.interfaces_count = 1, b)), b = two_packets();
+    wrong_burst("no interfaces", (b.interfaces_count = 0, b)), b = two_packets();
+    wrong_burst("lengths too few, the others alike", (b.lengths[0] = 29, b.lengths_count = 1, b.senders_count = b.interfaces_count = 3, b)), b = no_packets();
+    wrong_burst("a sender and an interface without a packet", (b.senders_count = b.interfaces_count = 1, b));
+}
+
+static void with_lengths(const char *what, size_t length, uint64_t first, uint64_t second)
+{
+    struct burst b = two_packets();
+    b.length = length;
+    b.lengths[0] = first;
+    b.lengths[1] = second;
+    wrong_burst(what, b);
+}
+
+static void lengths_that_do_not_add_up(void)
+{
+    with_lengths("an octet too few", 29, 12, 16);
+    with_lengths("an octet too many", 29, 12, 18);
+    with_lengths("the first alone as long as the buffer", 12, 12, 17);
+    with_lengths("the first longer than the buffer", 12, 13, 0);
+    with_lengths("no octets", 0, 12, 17);
+    with_lengths("lengths of 0 and octets", 29, 0, 0);
+    with_lengths("2^32 more than the octets", 29, 12, 4294967296u + 17);
+    with_lengths("2^33 more than the octets", 29, 4294967296u + 12, 4294967296u + 17);
+    with_lengths("2^64 more than the octets", 12, UINT64_MAX, 13);
+    with_lengths("2^64 more than the octets, the small one first", 12, 13, UINT64_MAX);
+    with_lengths("2^64 and no octets", 0, UINT64_MAX, 1);
+    with_lengths("2^63 twice and no octets", 0, (uint64_t)1 << 63, (uint64_t)1 << 63);
+    with_lengths("the largest number twice", 29, UINT64_MAX, UINT64_MAX);
+    struct burst b = no_packets();
+    wrong_burst("octets and no packet", (b.length = 12, b));
+}
+
+/* As many packets of 12 octets, each from another originator itself, and no more rows. */
+static struct burst alike(size_t packets)
+{
+    struct burst b = no_packets();
+    for (uint32_t sender = 1; sender <= packets; sender++)
+        add_message(&b, sender, message(sender, 7, 0, 50), 12);
+    b.rows = packets;
+    return b;
+}
+
+/* 16 lengths of 2^60, whose sum wraps to 0, behind a whole packet. */
+static struct burst wrapping_late(void)
+{
+    struct burst b = alike(17);
+    b.length = 12;
+    for (size_t i = 1; i < 17; i++)
+        b.lengths[i] = (uint64_t)1 << 60;
+    return b;
+}
+
+static void bursts_refused(void)
+{
+    struct burst b = two_packets();
+    wrong_burst("33 packets", alike(BURST_MOST));
+    wrong_burst("a row too few", (b.rows = 1, b)), b = two_packets();
+    wrong_burst("no rows", (b.rows = 0, b)), b = two_packets();
+    wrong_burst("a row too few, and packets that are refused", (b.rows = 1, b.room = 0, b.time = 0, b.interfaces[0] = UINT64_MAX, b));
+    wrong_burst("16 lengths of 2^60", wrapping_late());
+    lists_unequal();
+    lengths_that_do_not_add_up();
+}
+
+/* ---- a burst beside single calls */
+
+static bool same_answer(struct batman_received a, struct batman_received b)
+{
+    return a.number == b.number && a.place == b.place && a.flags == b.flags && memcmp(&a.route, &b.route, sizeof a.route) == 0;
+}
+
+/* The packets given one by one to a table, each with the rest of the output; answers and octets go to `b`. Answers how many octets were written. */
+static uint64_t give_singly(uint64_t *table, struct burst *b)
+{
+    const uint8_t *packet = b->octets;
+    size_t written = 0;
+    for (size_t i = 0; i < b->lengths_count; packet += b->lengths[i++]) {
+        struct batman_received a = batman_receive(table, SMALL, packet, b->lengths[i], b->senders[i], b->interfaces[i], b->time, b->output + written, b->room - written);
+        b->answers[i] = a;
+        written += a.number == BATMAN_PASSED_ON ? b->lengths[i] : 0;
+    }
+    return written;
+}
+
+/* The burst does what single calls do to a copy of the table. Answers the octets written; the answers stay in `b`. */
+static uint64_t same_as_singly(const char *what, struct burst *b)
+{
+    struct burst before, singly = *b;
+    memcpy(&before, b, sizeof before); /* padding too */
+    memcpy(small_kept, small, sizeof small);
+    uint64_t written = give_singly(small_kept, &singly);
+    struct batman_burst a = give(b);
+    size_t packets = b->lengths_count;
+    expect(what, a.number, 0);
+    expect("its octets written", a.written, written);
+    expect("its octets differ", memcmp(b->output, singly.output, sizeof b->output) != 0, 0);
+    expect("its cells differ", memcmp(small, small_kept, sizeof small) != 0, 0);
+    for (size_t i = 0; i < packets; i++)
+        expect("an answer of it is the same", same_answer(b->answers[i], singly.answers[i]), true);
+    expect("a row behind its answers was changed", memcmp(&b->answers[packets], &before.answers[packets], (BURST_MOST - packets) * sizeof b->answers[0]) != 0, 0);
+    expect("what it was given was changed", memcmp(b, &before, offsetof(struct burst, output)) != 0, 0);
+    return written;
+}
+
+/* Does what single calls do, and the packets get these answers. */
+static uint64_t answered(const char *what, struct burst *b, const uint64_t *numbers)
+{
+    uint64_t written = same_as_singly(what, b);
+    for (size_t i = 0; i < b->lengths_count; i++)
+        expect(what, seen(b->answers[i].number), numbers[i]);
+    return written;
+}
+
+/* As many as there may be, with no more rows than packets: each is passed on, and its copy stands behind the one before it. */
+static void most_packets(void)
+{
+    struct burst b = alike(BATMAN_PACKETS_MOST);
+    expect("octets written of 32 packets", same_as_singly("32 packets", &b), 12 * BATMAN_PACKETS_MOST);
+    for (size_t i = 0; i < BATMAN_PACKETS_MOST; i++) {
+        expect("an answer of 32", b.answers[i].number, BATMAN_PASSED_ON);
+        expect("the TTL of a copy of 32", b.output[12 * i + 2], 49);
+        expect("the originator of a copy of 32", b.output[12 * i + 11], i + 1);
+    }
+}
+
+/* Each packet sees what those before it left in the table, and a refused one stops none behind it. */
+static void each_after_the_other(void)
+{
+    static const uint64_t numbers[] = {BATMAN_KEPT, BATMAN_ECHO, BATMAN_PASSED_ON, BATMAN_PASSED_ON, BATMAN_KEPT, BATMAN_WRONG_MASK, BATMAN_NOT_IN_USE,
+                                       BATMAN_WRONG_SIZE, BATMAN_RAGGED_ENTRIES, BATMAN_OWN_SENDER, BATMAN_UNIDIRECTIONAL, BATMAN_PASSED_ON};
+    struct burst b = no_packets();
+    struct message six = message(900, 6, 5, 50);
+    const uint8_t masks[22] = {4, 0, 50, 0, 0, 9, 0, 0, 0, 0, 3, 132, 10, 0, 0, 0, 32, 10, 0, 0, 0, 33};
+    add_message(&b, 1, message(900, 4, 0, 50), 12); /* not counted: the echo comes behind it */
+    add_message(&b, 1, message(US, 65535, 64, 50), 12);
+    add_message(&b, 1, message(900, 5, 0, 50), 12);
+    add_message(&b, 1, six, 17);
+    add_message(&b, 1, message(900, 6, 0, 40), 12); /* a duplicate */
+    add_packet(&b, 1, 0, masks, sizeof masks);
+    add_packet(&b, 1, 2, six.octets, 12);
+    add_message(&b, 1, six, 0);
+    add_message(&b, 1, six, 16);
+    add_message(&b, US_TOO, six, 12);
+    add_message(&b, 1, message(900, 6, 128, 50), 12);
+    add_message(&b, 1, message(900, 7, 0, 50), 22);
+    expect("octets written one after another", answered("one after another", &b, numbers), 12 + 17 + 22);
+    expect("the place of the mask", b.answers[5].place, 1);
+    expect("octet 1 elsewhere", b.answers[3].flags, 5);
+    expect("the count, after two of them", b.answers[4].route.count, 2);
+    expect("the count, after all of them", b.answers[11].route.count, 3);
+    expect("the number in the last copy", b.output[12 + 17 + 5], 7);
+}
+
+/* 26 octets of output: the second packet is too long for what is left, the third is not, the fourth is again, and the fifth is too short for a packet. */
+static void short_of_output(void)
+{
+    static const uint64_t numbers[] = {BATMAN_PASSED_ON, BATMAN_SHORT_OUTPUT, BATMAN_PASSED_ON, BATMAN_SHORT_OUTPUT, BATMAN_WRONG_SIZE};
+    struct burst b = no_packets();
+    add_message(&b, 1, message(1, 8, 0, 50), 12);
+    add_message(&b, 2, message(2, 8, 0, 50), 17);
+    add_message(&b, 3, message(3, 8, 0, 50), 12);
+    add_message(&b, 4, message(4, 8, 0, 50), 12);
+    add_message(&b, 5, message(5, 8, 0, 50), 2);
+    b.room = 26;
+    expect("octets written of 26", answered("an output that runs out", &b, numbers), 24);
+    expect("the originator of the first copy", b.output[11], 1);
+    expect("the originator of the second copy", b.output[23], 3);
+}
+
+/* This message from each of the neighbours. */
+static void add_from(struct burst *b, uint32_t first, uint32_t last, struct message m)
+{
+    for (uint32_t neighbour = first; neighbour <= last; neighbour++)
+        add_message(b, neighbour, m, 12);
+}
+
+/* 32 neighbours in one burst; then a 33rd, a third originator and a ninth link in another. */
+static void full_tables(void)
+{
+    static const uint64_t numbers[] = {BATMAN_NEIGHBOURS_FULL, BATMAN_PASSED_ON, BATMAN_KEPT, BATMAN_KEPT, BATMAN_KEPT, BATMAN_KEPT, BATMAN_KEPT, BATMAN_KEPT,
+                                       BATMAN_KEPT, BATMAN_LINKS_FULL, BATMAN_PASSED_ON, BATMAN_ORIGINATORS_FULL, BATMAN_PASSED_ON};
+    begin(defaults);
+    struct burst b = no_packets();
+    add_from(&b, 1, BATMAN_NEIGHBOURS_MOST, message(US, 65535, 64, 50));
+    expect("octets written of 32 echoes", same_as_singly("32 echoes", &b), 0);
+    expect("the last echo", b.answers[BATMAN_NEIGHBOURS_MOST - 1].number, BATMAN_ECHO);
+    b = no_packets();
+    add_message(&b, BATMAN_NEIGHBOURS_MOST + 1, message(US, 65535, 64, 50), 12);
+    add_from(&b, 1, BATMAN_LINKS_MOST + 1, message(900, 1, 0, 50));
+    add_message(&b, 1, message(901, 1, 0, 50), 12);
+    add_message(&b, 1, message(902, 1, 0, 50), 12);
+    add_message(&b, 1, message(900, 2, 0, 50), 12);
+    answered("a full table", &b, numbers);
+}
+
+/* The time is that of all packets: each is refused by it, and the burst is not. */
+static void burst_at_an_earlier_time(void)
+{
+    static const uint64_t numbers[] = {BATMAN_TIME_BEFORE, BATMAN_TIME_BEFORE};
+    struct burst b = two_packets();
+    b.time = BURST_AT - 1;
+    expect("octets written at an earlier time", answered("an earlier time", &b, numbers), 0);
+}
+
+/* Nothing is changed, the table's time neither; and pointers with length 0 may be NULL. */
+static void bursts_of_none(void)
+{
+    struct burst b = no_packets();
+    unchanged("no packets", b, 0);
+    unchanged("no packets, an earlier time", (b.time = 0, b), 0);
+    unchanged("no packets, a later time", (b.time = UINT64_MAX, b), 0);
+    unchanged("no packets, no rows, no output", (b.rows = b.room = 0, b), 0);
+    small[VERSION_AT] = 256;
+    unchanged("no packets for a table not well-formed", b, BATMAN_NOT_WELL_FORMED);
+    small[VERSION_AT] = 4;
+    expect("no packets, NULL", batman_receive_burst(small, SMALL, NULL, 0, NULL, 0, NULL, 0, NULL, 0, 0, NULL, 0, NULL, 0).number, 0);
+    expect("no packets and no cells", batman_receive_burst(NULL, 0, NULL, 0, NULL, 0, NULL, 0, NULL, 0, 0, NULL, 0, NULL, 0).number, BATMAN_NOT_WELL_FORMED);
+}
+
+/* A packet of no octets, in a buffer and with an output that are NULL; then one that needs an output. */
+static void bursts_of_one_with_null(void)
+{
+    const uint64_t none = 0, twelve = 12, interface = 0;
+    const uint32_t sender = 1;
+    struct message m = message(1, 9, 0, 50);
+    struct batman_received answer;
+    struct batman_burst a = batman_receive_burst(small, SMALL, NULL, 0, &none, 1, &sender, 1, &interface, 1, BURST_AT, NULL, 0, &answer, 1);
+    expect("a packet of no octets, taken", a.number + a.written, 0);
+    expect("a packet of no octets", answer.number, BATMAN_WRONG_SIZE);
+    a = batman_receive_burst(small, SMALL, m.octets, 12, &twelve, 1, &sender, 1, &interface, 1, BURST_AT, NULL, 0, &answer, 1);
+    expect("a packet without an output, taken", a.number + a.written, 0);
+    expect("a packet without an output", answer.number, BATMAN_SHORT_OUTPUT);
+}
+
+static void bursts(void)
+{
+    begin(defaults);
+    bursts_refused();
+    most_packets();
+    each_after_the_other();
+    short_of_output();
+    bursts_refused();
+    burst_at_an_earlier_time();
+    bursts_of_none();
+    bursts_of_one_with_null();
+    full_tables();
+}
+
 /* Every refusal and every verdict. */
 static void all_came_up(void)
 {
     for (int n = BATMAN_NOT_WELL_FORMED; n <= BATMAN_PASSED_ON; n++)
-        if (n <= BATMAN_TTL_TOO_LOW || n >= BATMAN_OWN_SENDER)
+        if (n <= BATMAN_WRONG_BURST || n >= BATMAN_OWN_SENDER)
             expect("a number that never came up", (uint64_t)(came_up[n] ? 0 : n), 0);
 }
 
@@ -387,6 +741,7 @@ int main(void)
     asking_and_sweeping();
     verdicts();
     ties();
+    bursts();
     all_came_up();
     printf("calls: %lu answers and cells compared; %lu differ\n", compared, differing);
     return differing != 0;

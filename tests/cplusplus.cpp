@@ -28,6 +28,12 @@ int main()
     echo[1] = 64;
     batman_received heard = batman_receive(cells.data(), cells.size(), echo.data(), echo.size(), 5, 0, 2, output.data(), output.size());
     right = right && heard.number == BATMAN_ECHO;
+    std::vector<uint64_t> lengths = {echo.size()}, heard_by = {0};
+    std::vector<uint32_t> senders = {6};
+    std::vector<batman_received> answers(BATMAN_PACKETS_MOST);
+    batman_burst burst = batman_receive_burst(cells.data(), cells.size(), echo.data(), echo.size(), lengths.data(), lengths.size(), senders.data(), senders.size(),
+                                              heard_by.data(), heard_by.size(), 2, output.data(), output.size(), answers.data(), answers.size());
+    right = right && burst.number == 0 && burst.written == 0 && answers[0].number == BATMAN_ECHO;
     right = right && batman_best(cells.data(), cells.size(), 5).number == 0;
     right = right && batman_list(cells.data(), cells.size(), 5, rows.data(), rows.size()).filled == 0;
     right = right && batman_sweep(cells.data(), cells.size(), 3).removed == 0;
