@@ -12,42 +12,54 @@
 
 enum {
     VERSIONS = 5,
+    SINGLES = VERSIONS, /* the library's single calls, which are timed beside its bursts on a table of their own */
+    PLAYERS,
     COMPARED = 1000000, /* calls */
     SLICES = 61,       /* of which the median is taken */
     LINKS = 8,
     MOST = 256,        /* originators */
     CALLS_MOST = 1024, /* in a slice */
     COPIES_MOST = 32,
-    PACKET = 12 + 5 * 10,
+    CHECKED = 12 + 5 * 10, /* octets of the packet that is only checked */
     PURGE = 2000000000,
     FILLING = 100 /* numbers of each originator before anything is timed */
 };
 
 static const struct version *const versions[VERSIONS] = {&proved, &cells_clang, &cells_gcc, &plain_clang, &plain_gcc};
 
+enum { AT_1, AT_16, AT_64, AT_256, SIZES };
+
+static const unsigned sizes[SIZES] = {[AT_1] = 1, [AT_16] = 16, [AT_64] = 64, [AT_256] = MOST}; /* originators */
+
 static const uint8_t hna[] = {10, 7, 0, 0, 16, 192, 168, 4, 0, 24};
 
+enum { PACKET = 12 + sizeof hna };
+
 struct arrival {
-    uint8_t packet[12 + sizeof hna];
+    uint8_t packet[PACKET];
     uint32_t sender;
     uint64_t interface, time;
 };
 
-/* What a slice plays, the same for every version. */
+/* What a slice plays, the same for every version; and the arrivals once more as bursts take them. */
 struct slice {
     struct arrival arrival[CALLS_MOST];
-    unsigned calls;
+    unsigned calls, burst; /* how many in all, and of how many packets a burst is */
     uint64_t time;
+    uint8_t octets[CALLS_MOST][PACKET];
+    uint64_t lengths[CALLS_MOST], interfaces[CALLS_MOST];
+    uint32_t senders[CALLS_MOST];
 };
 
 /* A mesh with its tables, one for each version, and copies of them for calls that can be made only once. */
 struct mesh {
+    int size; /* its place among the sizes */
     unsigned originators, calls, copies;
     size_t count;
     uint64_t time, random;
     uint16_t sequence[MOST];
     uint8_t heard[MOST]; /* the links that have brought the current number, a bit each */
-    void *table[VERSIONS], *copy[VERSIONS][COPIES_MOST];
+    void *table[PLAYERS], *copy[VERSIONS][COPIES_MOST];
 };
 
 static void stop(const char *why)
@@ -97,8 +109,8 @@ static struct arrival direct(struct mesh *m, unsigned o)
 
 static struct batman_received take(const struct version *v, void *table, size_t count, const struct arrival *a)
 {
-    uint8_t out[sizeof a->packet];
-    return v->receive(table, count, a->packet, sizeof a->packet, a->sender, a->interface, a->time, out, sizeof out);
+    uint8_t out[PACKET];
+    return v->receive(table, count, a->packet, PACKET, a->sender, a->interface, a->time, out, sizeof out);
 }
 
 static void take_all(struct mesh *m, const struct arrival *a)
@@ -135,21 +147,30 @@ static void hear_round(struct mesh *m, unsigned without)
 
 /* ---- the mesh */
 
-static void open_mesh(struct mesh *m, unsigned originators, enum batman_tie tie)
+static void *memory(size_t octets)
 {
+    void *p = malloc(octets);
+    if (p == NULL)
+        stop("no memory");
+    return p;
+}
+
+static void open_mesh(struct mesh *m, int size, enum batman_tie tie)
+{
+    unsigned originators = sizes[size];
     struct batman_settings s = {.version = 4, .window = 64, .timeout = 1000, .purge = PURGE, .capacity = originators, .tie = tie};
     struct batman_interfaces f = {.row = {{0x0a020001, 0x0a02ffff, 1}, {0x0a020002, 0x0a02ffff, 1}}, .used = 2};
-    *m = (struct mesh){.originators = originators, .calls = originators > 64 ? 256 : originators > 16 ? 512 : CALLS_MOST,
+    *m = (struct mesh){.size = size, .originators = originators, .calls = originators > 64 ? 256 : originators > 16 ? 512 : CALLS_MOST,
                        .copies = originators > 64 ? 8 : originators > 16 ? 16 : COPIES_MOST, .random = random_seeded(originators)};
     m->count = (size_t)batman_cells_needed(originators);
+    m->table[SINGLES] = memory(proved.size(originators));
     for (int v = 0; v < VERSIONS; v++) {
-        size_t size = versions[v]->size(originators);
-        m->table[v] = malloc(size);
-        if (m->table[v] == NULL || versions[v]->make(m->table[v], m->count, s, f) != 0)
+        size_t octets = versions[v]->size(originators);
+        m->table[v] = memory(octets);
+        if (versions[v]->make(m->table[v], m->count, s, f) != 0)
             stop("no table could be made");
         for (unsigned i = 0; i < m->copies; i++)
-            if ((m->copy[v][i] = malloc(size)) == NULL)
-                stop("no memory");
+            m->copy[v][i] = memory(octets);
     }
     echo_all(m);
     for (int i = 0; i < FILLING; i++)
@@ -158,6 +179,7 @@ static void open_mesh(struct mesh *m, unsigned originators, enum batman_tie tie)
 
 static void close_mesh(struct mesh *m)
 {
+    free(m->table[SINGLES]);
     for (int v = 0; v < VERSIONS; v++) {
         free(m->table[v]);
         for (unsigned i = 0; i < m->copies; i++)
@@ -185,6 +207,32 @@ static uint64_t play_receive(const struct version *v, struct mesh *m, int place,
     return sum;
 }
 
+/* A slice's packets from `at` on as one burst. */
+static uint64_t take_burst(const struct version *v, void *table, size_t count, const struct slice *s, unsigned at)
+{
+    uint8_t out[BATMAN_PACKETS_MOST * PACKET];
+    struct batman_received answers[BATMAN_PACKETS_MOST];
+    size_t n = s->burst;
+    uint64_t sum = 0;
+    struct batman_burst b = v->burst(table, count, &(struct burst){
+        .octets = s->octets[at], .length = n * PACKET, .lengths = s->lengths + at, .lengths_count = n, .senders = s->senders + at,
+        .senders_count = n, .interfaces = s->interfaces + at, .interfaces_count = n, .time = s->arrival[at + n - 1].time,
+        .output = out, .room = n * PACKET, .answers = answers, .rows = n});
+    if (b.number != 0)
+        stop("a burst was refused");
+    for (size_t i = 0; i < n; i++)
+        sum += sum_of(answers[i]);
+    return sum;
+}
+
+static uint64_t play_bursts(const struct version *v, struct mesh *m, int place, const struct slice *s)
+{
+    uint64_t sum = 0;
+    for (unsigned at = 0; at < s->calls; at += s->burst)
+        sum += take_burst(v, m->table[place], m->count, s, at);
+    return sum;
+}
+
 static uint64_t play_first(const struct version *v, struct mesh *m, int place, const struct slice *s)
 {
     uint64_t sum = 0;
@@ -195,7 +243,7 @@ static uint64_t play_first(const struct version *v, struct mesh *m, int place, c
 
 static uint64_t play_own(const struct version *v, struct mesh *m, int place, const struct slice *s)
 {
-    uint8_t out[12 + sizeof hna];
+    uint8_t out[PACKET];
     uint64_t sum = 0;
     for (unsigned i = 0; i < s->calls; i++)
         sum += v->own_packet(m->table[place], m->count, 0, s->time, 50, 0, 0, hna, sizeof hna, out, sizeof out).sequence + out[5];
@@ -230,7 +278,7 @@ static uint64_t play_best(const struct version *v, struct mesh *m, int place, co
 
 static uint64_t play_check(const struct version *v, struct mesh *m, int place, const struct slice *s)
 {
-    static const uint8_t packet[PACKET] = {4, 0, 50};
+    static const uint8_t packet[CHECKED] = {4, 0, 50};
     uint64_t sum = 0;
     (void)m, (void)place;
     for (unsigned i = 0; i < s->calls; i++)
@@ -246,6 +294,18 @@ static void prepare_relayed(struct mesh *m, struct slice *s)
 {
     for (unsigned i = 0; i < s->calls; i++)
         s->arrival[i] = relayed(m, (unsigned)below(m, m->originators));
+}
+
+static void prepare_bursts(struct mesh *m, struct slice *s)
+{
+    prepare_relayed(m, s);
+    for (unsigned i = 0; i < s->calls; i++) {
+        const struct arrival *a = &s->arrival[i];
+        memcpy(s->octets[i], a->packet, PACKET);
+        s->lengths[i] = PACKET;
+        s->senders[i] = a->sender;
+        s->interfaces[i] = a->interface;
+    }
 }
 
 static void prepare_direct(struct mesh *m, struct slice *s)
@@ -270,12 +330,31 @@ static void prepare_copies(struct mesh *m, struct slice *s)
 
 /* ---- timing */
 
-struct row {
+/* The rows, as docs/BENCHMARK.md shows them: those of bursts in a table of their own. */
+enum { RELAYED, TIES, DIRECT, OWN, SWEEP, BEST, CHECK, SWEEP_ONE, FIRST, BURST_8, BURST_32, ROWS };
+
+static const struct row {
     const char *name;
     prepare *prepare;
     play *play;
     bool on_copies;
+    unsigned burst; /* packets of a burst, or 0 */
+} rows[ROWS] = {
+    [RELAYED] = {"receive, relayed", prepare_relayed, play_receive, false, 0},
+    [TIES] = {"receive, relayed, ties stay", prepare_relayed, play_receive, false, 0},
+    [DIRECT] = {"receive, direct", prepare_direct, play_receive, false, 0},
+    [OWN] = {"own packet, 2 HNA entries", prepare_time, play_own, false, 0},
+    [SWEEP] = {"sweep, none removed", prepare_time, play_sweep, false, 0},
+    [BEST] = {"best question", prepare_time, play_best, false, 0},
+    [CHECK] = {"packet check, 62 octets", prepare_time, play_check, false, 0},
+    [SWEEP_ONE] = {"sweep, one removed", prepare_copies, play_sweep_one, true, 0},
+    [FIRST] = {"receive, first of originator", prepare_copies, play_first, true, 0},
+    [BURST_8] = {"burst of 8, a packet", prepare_bursts, play_bursts, false, 8},
+    [BURST_32] = {"burst of 32, a packet", prepare_bursts, play_bursts, false, 32},
 };
+
+/* What each player took, in nanoseconds. */
+static double took[ROWS][SIZES][PLAYERS];
 
 static double nanoseconds(void)
 {
@@ -296,45 +375,43 @@ static double median(double *x, int n)
     return x[n / 2];
 }
 
-/* The faster of two compilers' versions, and a letter for the compiler. */
-static double faster(double clang, double gcc, char *which)
+/* Plays a slice on one player's table, and says how long a call, or a packet of a burst, took. */
+static double time_slice(struct mesh *m, const struct row *r, int player, const struct slice *s, uint64_t *sum)
 {
-    *which = clang <= gcc ? 'c' : 'g';
-    return clang <= gcc ? clang : gcc;
+    if (r->on_copies) /* just before they are used, so that every version's are as near to the processor */
+        copy_tables(m, player);
+    double start = nanoseconds();
+    *sum = player == SINGLES ? play_receive(&proved, m, SINGLES, s) : r->play(versions[player], m, player, s);
+    return (nanoseconds() - start) / s->calls;
 }
 
-static void print_row(const char *name, unsigned originators, double ns[VERSIONS])
+static void same_sums(const uint64_t *sum, int players)
 {
-    char cells_by, plain_by;
-    double cells = faster(ns[1], ns[2], &cells_by), plain = faster(ns[3], ns[4], &plain_by);
-    printf("%-28s %11u %9.1f %9.1f %c %6.2f %9.1f %c\n", name, originators, ns[0], cells, cells_by, ns[0] / cells, plain, plain_by);
-    fflush(stdout);
+    for (int v = 1; v < players; v++)
+        if (sum[v] != sum[0])
+            stop("the versions answered differently while they were timed");
 }
 
-static void time_row(struct mesh *m, const struct row *r)
+static void time_row(struct mesh *m, int row)
 {
     static struct slice s;
-    static double took[VERSIONS][SLICES];
-    double ns[VERSIONS];
+    static double slice[PLAYERS][SLICES];
+    const struct row *r = &rows[row];
+    int players = r->burst > 0 ? PLAYERS : VERSIONS;
+    memcpy(m->table[SINGLES], m->table[0], m->count * sizeof(uint64_t)); /* the single calls begin where the bursts do */
     for (int i = 0; i < SLICES; i++) {
-        uint64_t sum[VERSIONS];
+        uint64_t sum[PLAYERS];
         s.calls = m->calls;
+        s.burst = r->burst;
         r->prepare(m, &s);
-        for (int turn = 0; turn < VERSIONS; turn++) {
-            int v = (turn + i) % VERSIONS;
-            if (r->on_copies) /* just before they are used, so that every version's are as near to the processor */
-                copy_tables(m, v);
-            double start = nanoseconds();
-            sum[v] = r->play(versions[v], m, v, &s);
-            took[v][i] = (nanoseconds() - start) / s.calls;
+        for (int turn = 0; turn < players; turn++) {
+            int v = (turn + i) % players;
+            slice[v][i] = time_slice(m, r, v, &s, &sum[v]);
         }
-        for (int v = 1; v < VERSIONS; v++)
-            if (sum[v] != sum[0])
-                stop("the versions answered differently while they were timed");
+        same_sums(sum, players);
     }
-    for (int v = 0; v < VERSIONS; v++)
-        ns[v] = median(took[v], SLICES);
-    print_row(r->name, m->originators, ns);
+    for (int v = 0; v < players; v++)
+        took[row][m->size][v] = median(slice[v], SLICES);
 }
 
 /* Leaves one originator unheard for longer than the purge timeout, and all others heard just now. */
@@ -359,51 +436,105 @@ static void same_cells(const struct mesh *m)
             stop("the cells differ after the timed calls");
 }
 
-static void time_mesh(unsigned originators)
+static void time_mesh(int size)
 {
-    static const struct row steady[] = {
-        {"receive, relayed", prepare_relayed, play_receive, false},
-        {"receive, direct", prepare_direct, play_receive, false},
-        {"own packet, 2 HNA entries", prepare_time, play_own, false},
-        {"sweep, none removed", prepare_time, play_sweep, false},
-        {"best question", prepare_time, play_best, false},
-        {"packet check, 62 octets", prepare_time, play_check, false},
-    };
-    static const struct row sweep_one = {"sweep, one removed", prepare_copies, play_sweep_one, true};
-    static const struct row first = {"receive, first of originator", prepare_copies, play_first, true};
+    static const int steady[] = {RELAYED, BURST_8, BURST_32, DIRECT, OWN, SWEEP, BEST, CHECK};
     static struct mesh m;
-    open_mesh(&m, originators, BATMAN_NEWEST_WINS); /* as it was before there was a choice: these rows stay comparable */
+    open_mesh(&m, size, BATMAN_NEWEST_WINS); /* as it was before there was a choice: these rows stay comparable */
     for (size_t i = 0; i < sizeof steady / sizeof *steady; i++)
-        time_row(&m, &steady[i]);
+        time_row(&m, steady[i]);
     age_one(&m);
-    time_row(&m, &sweep_one);
+    time_row(&m, SWEEP_ONE);
     remove_one(&m);
-    time_row(&m, &first);
+    time_row(&m, FIRST);
     same_cells(&m);
     close_mesh(&m);
 }
 
-static void time_ties(unsigned originators)
+static void time_ties(int size)
 {
-    static const struct row stay = {"receive, relayed, ties stay", prepare_relayed, play_receive, false};
     static struct mesh m;
-    open_mesh(&m, originators, BATMAN_PRESENT_STAYS);
-    time_row(&m, &stay);
+    open_mesh(&m, size, BATMAN_PRESENT_STAYS);
+    time_row(&m, TIES);
     same_cells(&m);
     close_mesh(&m);
+}
+
+/* ---- what is printed: tables in Markdown, ready for docs/BENCHMARK.md */
+
+/* The faster of two compilers' versions, and a letter for the compiler. */
+static double faster(double clang, double gcc, char *which)
+{
+    *which = clang <= gcc ? 'c' : 'g';
+    return clang <= gcc ? clang : gcc;
+}
+
+static double beside_cells(int row, int size)
+{
+    char which;
+    return took[row][size][0] / faster(took[row][size][1], took[row][size][2], &which);
+}
+
+static double beside_singles(int row, int size) { return took[row][size][0] / took[row][size][SINGLES]; }
+
+static void print_row(int row, int size)
+{
+    const double *ns = took[row][size];
+    char cells_by, plain_by;
+    double cells = faster(ns[1], ns[2], &cells_by), plain = faster(ns[3], ns[4], &plain_by);
+    printf("| %-28s | %11u | %9.1f | %6.1f %c | %5.2f | %5.1f %c |", rows[row].name, sizes[size], ns[0], cells, cells_by, beside_cells(row, size),
+           plain, plain_by);
+    if (rows[row].burst > 0)
+        printf(" %9.1f | %11.2f |", ns[SINGLES], beside_singles(row, size));
+    printf("\n");
+}
+
+static void print_rows(int from, int to)
+{
+    for (int row = from; row < to; row++)
+        for (int size = 0; size < SIZES; size++)
+            print_row(row, size);
+}
+
+static void print_aim(const char *aim, double most, double is)
+{
+    printf("%s: at most %.2f, and is %.3f: %s\n", aim, most, is, is <= most ? "holds" : "doesn't hold");
+}
+
+static double slowest_burst(void)
+{
+    double most = 0;
+    for (int row = BURST_8; row <= BURST_32; row++)
+        for (int size = 0; size < SIZES; size++)
+            if (beside_cells(row, size) > most)
+                most = beside_cells(row, size);
+    return most;
+}
+
+static void print_all(void)
+{
+    static const char *const columns = "| call                         | originators | proved ns |   (a) ns | ratio |  (b) ns |";
+    static const char *const rule = "|---|---:|---:|---:|---:|---:|";
+    printf("\n%s\n%s\n", columns, rule);
+    print_rows(0, BURST_8);
+    printf("\n%s single ns | of a single |\n%s---:|---:|\n", columns, rule);
+    print_rows(BURST_8, ROWS);
+    printf("\n(a) the same cells and the same check in C, (b) structs of its own and no check; c by clang, g by gcc, the faster of the two.\n");
+    printf("Single: as many single calls of the proved library. The median of %d slices, in which the versions take turns.\n\n", SLICES);
+    print_aim("a packet of a burst of 32 at 64 originators beside a single call", 0.25, beside_singles(BURST_32, AT_64));
+    print_aim("a packet of a burst of 32 at 256 originators beside a single call", 0.10, beside_singles(BURST_32, AT_256));
+    print_aim("a packet of any burst beside (a)", 1.10, slowest_burst());
 }
 
 int main(void)
 {
-    static const unsigned sizes[] = {1, 16, 64, 256};
     if (!compare(versions, VERSIONS, COMPARED))
         return EXIT_FAILURE;
-    printf("\n%-28s %11s %9s %11s %6s %11s\n", "call", "originators", "proved ns", "(a) ns", "ratio", "(b) ns");
-    for (size_t i = 0; i < sizeof sizes / sizeof *sizes; i++) {
-        time_mesh(sizes[i]);
-        time_ties(sizes[i]);
+    fflush(stdout);
+    for (int size = 0; size < SIZES; size++) {
+        time_mesh(size);
+        time_ties(size);
     }
-    printf("\n(a) the same cells and the same check in C, (b) structs of its own and no check; c by clang, g by gcc, the faster of the two.\n");
-    printf("The median of %d slices, in which the versions take turns.\n", SLICES);
+    print_all();
     return EXIT_SUCCESS;
 }

@@ -6,14 +6,29 @@
 
 #include "batman.h"
 
+typedef struct batman_received receive_call(void *table, size_t count, const uint8_t *packet, size_t length, uint32_t sender, uint64_t interface,
+                                            uint64_t time, uint8_t *output, size_t room);
+
+/* A burst as it is lent, with the names of batman_receive_burst. */
+struct burst {
+    const uint8_t *octets;
+    const uint64_t *lengths, *interfaces;
+    const uint32_t *senders;
+    size_t length, lengths_count, senders_count, interfaces_count;
+    uint64_t time;
+    uint8_t *output;
+    struct batman_received *answers;
+    size_t room, rows;
+};
+
 /* `table` is what `size` octets hold; `count` is the number of cells for a version that has cells, and ignored by another. */
 struct version {
     const char *name;
     bool has_cells;
     size_t (*size)(uint64_t capacity);
     uint64_t (*make)(void *table, size_t count, struct batman_settings settings, struct batman_interfaces interfaces);
-    struct batman_received (*receive)(void *table, size_t count, const uint8_t *packet, size_t length, uint32_t sender, uint64_t interface,
-                                      uint64_t time, uint8_t *output, size_t room);
+    receive_call *receive;
+    struct batman_burst (*burst)(void *table, size_t count, const struct burst *b);
     struct batman_written (*own_packet)(void *table, size_t count, uint64_t interface, uint64_t time, uint8_t ttl, uint8_t gateway,
                                         uint16_t port, const uint8_t *hna, size_t hna_length, uint8_t *output, size_t room);
     struct batman_swept (*sweep)(void *table, size_t count, uint64_t time);

@@ -2,6 +2,7 @@
  * Compiled once by each compiler: VERSION is the name that the row of functions then has. */
 #include <string.h>
 
+#include "burst.h"
 #include "calls.h"
 #include "wire.h"
 
@@ -275,11 +276,9 @@ static void make_record(uint64_t *c, size_t at, const struct arrival *m)
     c[RECORDS_AT]++;
 }
 
-/* The refusals that receive and own packet have in common. */
-static inline struct fault call_fault(const uint64_t *c, size_t count, uint64_t interface, uint64_t time, bool is_short)
+/* The refusals that receive and own packet have in common, behind the check. */
+static inline struct fault call_fault(const uint64_t *c, uint64_t interface, uint64_t time, bool is_short)
 {
-    if (!well_formed(c, count))
-        return (struct fault){1, 0};
     if (interface >= c[USED_AT])
         return (struct fault){2, 0};
     if (time < c[TIME_AT])
@@ -349,11 +348,13 @@ static struct batman_received others_message(uint64_t *c, const uint8_t *packet,
     return (struct batman_received){26, 0, packet[1] & UNNAMED, route};
 }
 
-static struct batman_received receive(void *table, size_t count, const uint8_t *packet, size_t length, uint32_t sender, uint64_t interface,
-                                      uint64_t time, uint8_t *output, size_t room)
+/* A packet behind the check. */
+static struct batman_received receive_checked(void *table, size_t count, const uint8_t *packet, size_t length, uint32_t sender, uint64_t interface,
+                                              uint64_t time, uint8_t *output, size_t room)
 {
     uint64_t *c = table;
-    struct fault f = call_fault(c, count, interface, time, room < length);
+    struct fault f = call_fault(c, interface, time, room < length);
+    (void)count;
     if (f.number == 0)
         f = packet_fault(packet, length, c[VERSION_AT]);
     if (f.number != 0)
@@ -368,6 +369,21 @@ static struct batman_received receive(void *table, size_t count, const uint8_t *
         return others_message(c, packet, length, &m, output);
     c[TIME_AT] = time;
     return answer(verdict, route_to(c, m.originator));
+}
+
+static struct batman_received receive(void *table, size_t count, const uint8_t *packet, size_t length, uint32_t sender, uint64_t interface,
+                                      uint64_t time, uint8_t *output, size_t room)
+{
+    if (!well_formed(table, count))
+        return refusal((struct fault){1, 0});
+    return receive_checked(table, count, packet, length, sender, interface, time, output, room);
+}
+
+static struct batman_burst burst(void *table, size_t count, const struct burst *b)
+{
+    if (!well_formed(table, count))
+        return (struct batman_burst){1, 0};
+    return receive_burst(receive_checked, table, count, b);
 }
 
 /* ---- the other calls */
@@ -403,7 +419,9 @@ static struct batman_written own_packet(void *table, size_t count, uint64_t inte
                                         uint16_t port, const uint8_t *hna, size_t hna_length, uint8_t *output, size_t room)
 {
     uint64_t *c = table;
-    struct fault f = call_fault(c, count, interface, time, room < HEADER || room - HEADER < hna_length);
+    if (!well_formed(c, count))
+        return (struct batman_written){1, 0, 0, 0};
+    struct fault f = call_fault(c, interface, time, room < HEADER || room - HEADER < hna_length);
     if (f.number == 0)
         f = written_fault(hna, hna_length, ttl);
     if (f.number != 0)
@@ -446,4 +464,4 @@ static struct batman_asked best(const void *table, size_t count, uint32_t origin
     return (struct batman_asked){0, route_to(c, originator)};
 }
 
-const struct version VERSION = {"cells", true, size, make, receive, own_packet, sweep, best, packet_check};
+const struct version VERSION = {"cells", true, size, make, receive, burst, own_packet, sweep, best, packet_check};

@@ -7,20 +7,53 @@
 #include "calls.h"
 #include "../../demo/random.h"
 
-enum { VERSIONS = 8, OUTPUT = 96, NUMBERS = 32, HISTORY = 500, CAPACITY_MOST = 6, OWN_FROM = 0x0a090000, BROADCAST = 0x0a09ffff };
+enum {
+    VERSIONS = 8,
+    PACKET = 32,                     /* octets of a packet, at most */
+    LISTS = BATMAN_PACKETS_MOST + 4, /* packets of a burst that is too long, at most */
+    OUTPUT = LISTS * PACKET,
+    NUMBERS = 32,
+    HISTORY = 500,
+    CAPACITY_MOST = 6,
+    OWN_FROM = 0x0a090000,
+    BROADCAST = 0x0a09ffff
+};
 
-enum kind { MAKE, RECEIVE, OWN_PACKET, SWEEP, BEST, CHECK };
+enum kind { MAKE, RECEIVE, BURST, OWN_PACKET, SWEEP, BEST, CHECK };
+
+/* A packet as it is heard; of an own packet, its HNA entries and its interface. */
+struct packet {
+    uint8_t octets[PACKET];
+    size_t length;
+    uint32_t sender;
+    uint64_t interface;
+};
+
+/* The packets of a burst, one after another, and how long everything is said to be. */
+struct packets {
+    uint8_t octets[OUTPUT];
+    uint64_t lengths[LISTS], interfaces[LISTS];
+    uint32_t senders[LISTS];
+    size_t length, lengths_count, senders_count, interfaces_count, rows;
+};
 
 /* One call's arguments, whatever call it is. */
 struct call {
     enum kind kind;
     struct batman_settings settings;
     struct batman_interfaces interfaces;
-    uint8_t octets[OUTPUT]; /* the packet, or the HNA entries */
-    size_t length, room;
-    uint32_t address; /* the sender, or the originator asked for */
-    uint64_t interface, time, version;
+    struct packet packet;
+    struct packets packets;
+    size_t room;
+    uint32_t originator;
+    uint64_t time, version;
     uint8_t ttl;
+};
+
+/* A row of a burst's answers, in words. */
+struct answer {
+    uint64_t number, place, flags;
+    struct batman_route route;
 };
 
 /* One call's answer, in words so that it can be compared as a whole, and what it wrote. */
@@ -28,6 +61,7 @@ struct result {
     uint64_t number, place, first, second;
     struct batman_route route;
     uint8_t output[OUTPUT];
+    struct answer rows[LISTS];
 };
 
 /* What is drawn from in one history: few addresses and small settings bring duplicates, full tables and timeouts soon. */
@@ -44,20 +78,37 @@ static uint64_t state;
 static uint64_t below(uint64_t n) { return random_below(&state, n); }
 static bool seldom(uint64_t n) { return below(n) == 0; }
 
+/* All rows are kept, so that those behind the packets' are compared too. */
+static void play_burst(const struct version *v, void *table, size_t count, const struct call *c, struct result *r)
+{
+    const struct packets *p = &c->packets;
+    struct batman_received rows[LISTS];
+    memset(rows, 0xee, sizeof rows);
+    struct batman_burst a = v->burst(table, count, &(struct burst){
+        .octets = p->octets, .length = p->length, .lengths = p->lengths, .lengths_count = p->lengths_count,
+        .senders = p->senders, .senders_count = p->senders_count, .interfaces = p->interfaces, .interfaces_count = p->interfaces_count,
+        .time = c->time, .output = r->output, .room = c->room, .answers = rows, .rows = p->rows});
+    r->number = a.number, r->first = a.written;
+    for (size_t i = 0; i < LISTS; i++)
+        r->rows[i] = (struct answer){rows[i].number, rows[i].place, rows[i].flags, rows[i].route};
+}
+
 static struct result play(const struct version *v, void *table, size_t count, const struct call *c)
 {
+    const struct packet *p = &c->packet;
     struct result r;
     memset(&r, 0, sizeof r);
     memset(r.output, 0xee, sizeof r.output);
     switch (c->kind) {
     case MAKE: r.number = v->make(table, count, c->settings, c->interfaces); break;
     case RECEIVE: {
-        struct batman_received a = v->receive(table, count, c->octets, c->length, c->address, c->interface, c->time, r.output, c->room);
+        struct batman_received a = v->receive(table, count, p->octets, p->length, p->sender, p->interface, c->time, r.output, c->room);
         r.number = a.number, r.place = a.place, r.first = a.flags, r.route = a.route;
         break;
     }
+    case BURST: play_burst(v, table, count, c, &r); break;
     case OWN_PACKET: {
-        struct batman_written a = v->own_packet(table, count, c->interface, c->time, c->ttl, 3, 4305, c->octets, c->length, r.output, c->room);
+        struct batman_written a = v->own_packet(table, count, p->interface, c->time, c->ttl, 3, 4305, p->octets, p->length, r.output, c->room);
         r.number = a.number, r.place = a.place, r.first = a.length, r.second = a.sequence;
         break;
     }
@@ -67,11 +118,11 @@ static struct result play(const struct version *v, void *table, size_t count, co
         break;
     }
     case BEST: {
-        struct batman_asked a = v->best(table, count, c->address);
+        struct batman_asked a = v->best(table, count, c->originator);
         r.number = a.number, r.route = a.route;
         break;
     }
-    case CHECK: r.number = v->packet_check(c->octets, c->length, c->version); break;
+    case CHECK: r.number = v->packet_check(p->octets, p->length, c->version); break;
     }
     return r;
 }
@@ -97,52 +148,109 @@ static void draw_time(struct history *h, struct call *c)
 }
 
 /* Octets that are a packet, or HNA entries alone, with a fault now and then. */
-static void draw_entries(struct call *c, size_t from)
+static void draw_entries(struct packet *p, size_t from)
 {
-    c->length = from + 5 * below(4);
-    for (size_t i = from; i < c->length; i++)
-        c->octets[i] = (uint8_t)below(33);
-    if (seldom(25) && c->length > from)
-        c->octets[c->length - 1 - 5 * below((c->length - from) / 5)] = 33;
+    p->length = from + 5 * below(4);
+    for (size_t i = from; i < p->length; i++)
+        p->octets[i] = (uint8_t)below(33);
+    if (seldom(25) && p->length > from)
+        p->octets[p->length - 1 - 5 * below((p->length - from) / 5)] = 33;
     if (seldom(40))
-        c->length += below(5);
+        p->length += below(5);
 }
 
-static void draw_packet(struct history *h, struct call *c)
+static uint64_t draw_interface(const struct history *h) { return seldom(40) ? 4 : below(h->interfaces.used); }
+
+static void draw_packet(struct history *h, struct packet *p)
 {
     bool echo = seldom(4);
     uint32_t node = 1 + (uint32_t)below(h->originators), originator = node;
     uint16_t *number = &h->number[node], said;
-    c->interface = seldom(40) ? 4 : below(h->interfaces.used);
-    c->address = seldom(4) ? node : 1 + (uint32_t)below(seldom(12) ? 40 : h->nodes);
+    p->interface = draw_interface(h);
+    p->sender = seldom(4) ? node : 1 + (uint32_t)below(seldom(12) ? 40 : h->nodes);
     *number = (uint16_t)(*number + (seldom(3) ? 1 : 0) + (seldom(60) ? below(80) : 0));
     said = (uint16_t)(*number - (seldom(6) ? below(12) : 0));
-    if (echo && c->interface < 4) {
-        originator = OWN_FROM + (uint32_t)(seldom(10) ? below(4) : c->interface);
-        said = (uint16_t)(h->last[c->interface] - (seldom(8) ? 1 : 0));
-        c->address = 1 + (uint32_t)below(seldom(4) ? 40 : h->nodes);
+    if (echo && p->interface < 4) {
+        originator = OWN_FROM + (uint32_t)(seldom(10) ? below(4) : p->interface);
+        said = (uint16_t)(h->last[p->interface] - (seldom(8) ? 1 : 0));
+        p->sender = 1 + (uint32_t)below(seldom(4) ? 40 : h->nodes);
     }
     if (seldom(30))
-        c->address = seldom(2) ? OWN_FROM : BROADCAST;
-    draw_entries(c, 12);
+        p->sender = seldom(2) ? OWN_FROM : BROADCAST;
+    draw_entries(p, 12);
     const uint8_t head[12] = {4, (uint8_t)(seldom(6) ? below(256) : echo ? 64 : below(64)), (uint8_t)(seldom(4) ? below(4) : 20 + below(3)), 1,
                               (uint8_t)(said >> 8), (uint8_t)said, 2, 3, (uint8_t)(originator >> 24), (uint8_t)(originator >> 16),
                               (uint8_t)(originator >> 8), (uint8_t)originator};
-    memcpy(c->octets, head, sizeof head);
+    memcpy(p->octets, head, sizeof head);
     if (seldom(40))
-        c->octets[0] = 5;
+        p->octets[0] = 5;
     if (seldom(60))
-        c->length = below(12);
+        p->length = below(12);
+}
+
+static void draw_receive(struct history *h, struct call *c)
+{
+    draw_packet(h, &c->packet);
     c->version = seldom(8) ? 260 : 4;
-    c->room = seldom(40) && c->length > 0 ? c->length - 1 : OUTPUT;
+    c->room = seldom(40) && c->packet.length > 0 ? c->packet.length - 1 : OUTPUT;
 }
 
 static void draw_own(struct history *h, struct call *c)
 {
-    draw_entries(c, 0);
-    c->interface = seldom(40) ? 4 : below(h->interfaces.used);
+    draw_entries(&c->packet, 0);
+    c->packet.interface = draw_interface(h);
     c->ttl = (uint8_t)(seldom(20) ? below(2) : 50);
-    c->room = seldom(30) ? c->length + 11 : c->length + 12;
+    c->room = c->packet.length + (seldom(30) ? 11 : 12);
+}
+
+/* Draws packets behind those that are there, until there are n. */
+static void draw_packets(struct history *h, struct packets *b, size_t n)
+{
+    for (size_t i = b->lengths_count; i < n; i++) {
+        struct packet p = {.length = 0};
+        draw_packet(h, &p);
+        memcpy(b->octets + b->length, p.octets, p.length);
+        b->length += p.length;
+        b->lengths[i] = p.length;
+        b->senders[i] = p.sender;
+        b->interfaces[i] = p.interface;
+    }
+    b->lengths_count = b->senders_count = b->interfaces_count = b->rows = n;
+}
+
+/* Makes one length longer and another shorter by as much: the sum stays, but wraps where the other was not that long. */
+static void shift_lengths(struct packets *b)
+{
+    uint64_t by = seldom(2) ? below(PACKET) : random_next(&state);
+    if (b->lengths_count == 0)
+        return;
+    b->lengths[below(b->lengths_count)] += by;
+    b->lengths[below(b->lengths_count)] -= by;
+}
+
+/* Makes a burst not fit, mostly: a list or the buffer longer or shorter by one, too few rows, too many packets, or lengths that may wrap. */
+static void misfit(struct history *h, struct packets *b)
+{
+    size_t n = b->lengths_count, other = n == 0 || seldom(2) ? n + 1 : n - 1;
+    switch (below(7)) {
+    case 0: b->lengths_count = other; break;
+    case 1: b->senders_count = other; break;
+    case 2: b->interfaces_count = other; break;
+    case 3: b->length = b->length == 0 || seldom(2) ? b->length + 1 : b->length - 1; break;
+    case 4: b->rows = below(n + 1); break;
+    case 5: draw_packets(h, b, BATMAN_PACKETS_MOST + 1 + below(LISTS - BATMAN_PACKETS_MOST)); break;
+    case 6: shift_lengths(b); break;
+    }
+}
+
+static void draw_burst(struct history *h, struct call *c)
+{
+    struct packets *b = &c->packets;
+    draw_packets(h, b, below(seldom(4) ? BATMAN_PACKETS_MOST + 1 : 5));
+    b->rows += below(3);
+    if (seldom(4))
+        misfit(h, b);
+    c->room = seldom(4) ? below(b->length + 1) : seldom(2) ? b->length : OUTPUT;
 }
 
 static struct call draw(struct history *h)
@@ -151,13 +259,15 @@ static struct call draw(struct history *h)
     uint64_t kind = below(100);
     memset(&c, 0, sizeof c);
     draw_time(h, &c);
-    c.kind = kind < 72 ? RECEIVE : kind < 84 ? OWN_PACKET : kind < 88 ? SWEEP : kind < 95 ? BEST : CHECK;
+    c.kind = kind < 66 ? RECEIVE : kind < 72 ? BURST : kind < 84 ? OWN_PACKET : kind < 88 ? SWEEP : kind < 95 ? BEST : CHECK;
     if (c.kind == RECEIVE || c.kind == CHECK)
-        draw_packet(h, &c);
+        draw_receive(h, &c);
+    else if (c.kind == BURST)
+        draw_burst(h, &c);
     else if (c.kind == OWN_PACKET)
         draw_own(h, &c);
     else if (c.kind == BEST)
-        c.address = 1 + (uint32_t)below(9);
+        c.originator = 1 + (uint32_t)below(9);
     return c;
 }
 
@@ -184,7 +294,8 @@ struct players {
     void *table[VERSIONS];
     uint64_t *spare[2];
     size_t count;
-    unsigned long calls, damaged, by_number[NUMBERS]; /* calls in all, and those of them on a damaged table */
+    unsigned long calls, damaged, bursts;                     /* calls in all, those of them on a damaged table, and bursts */
+    unsigned long by_number[NUMBERS], in_bursts[NUMBERS]; /* the answers to calls, and those to the packets of bursts */
 };
 
 static bool differ(const struct call *c, const struct version *v, const char *what, uint64_t is, uint64_t should)
@@ -193,12 +304,22 @@ static bool differ(const struct call *c, const struct version *v, const char *wh
     return false;
 }
 
+static void note(struct players *p, const struct call *c, const struct result *r)
+{
+    p->calls++;
+    p->by_number[r->number % NUMBERS]++;
+    if (c->kind != BURST)
+        return;
+    p->bursts++;
+    for (size_t i = 0; r->number == 0 && i < c->packets.lengths_count; i++)
+        p->in_bursts[r->rows[i].number % NUMBERS]++;
+}
+
 /* Plays a call on every version; the first is what the others are compared with. */
 static bool play_all(struct players *p, const struct call *c, struct result *first)
 {
     *first = play(p->version[0], p->table[0], p->count, c);
-    p->calls++;
-    p->by_number[first->number % NUMBERS]++;
+    note(p, c, first);
     for (int i = 1; i < p->n; i++) {
         struct result r = play(p->version[i], p->table[i], p->count, c);
         if (memcmp(&r, first, sizeof r) != 0)
@@ -270,8 +391,7 @@ static bool play_damaged(struct players *p, const struct call *c)
         if (memcmp(&r, &first, sizeof r) != 0 || memcmp(cells, p->spare[0], octets) != 0)
             return differ(c, p->version[i], "judgement of a damaged table", r.number, first.number);
     }
-    p->by_number[first.number % NUMBERS]++;
-    p->calls++;
+    note(p, c, &first);
     p->damaged++;
     return true;
 }
@@ -291,21 +411,28 @@ static bool play_history(struct players *p)
         if (!play_all(p, &c, &r))
             return false;
         if (c.kind == OWN_PACKET && r.number == 0)
-            h.last[c.interface] = (uint16_t)r.second;
+            h.last[c.packet.interface] = (uint16_t)r.second;
         if (c.kind == MAKE && r.number == 0)
             h.time = 0;
     }
     return true;
 }
 
-static bool every_number_came(const struct players *p)
+static bool came(const unsigned long *answers, int from, int to, const char *to_what)
 {
-    for (int n = 0; n <= 26; n++)
-        if ((n <= 13 || n >= 20) && p->by_number[n] == 0) {
-            printf("calls: no call was answered %d\n", n);
+    for (int n = from; n <= to; n++)
+        if (answers[n] == 0) {
+            printf("calls: no %s was answered %d\n", to_what, n);
             return false;
         }
     return true;
+}
+
+static bool every_number_came(const struct players *p)
+{
+    return came(p->by_number, 0, BATMAN_WRONG_BURST, "call") && came(p->by_number, BATMAN_OWN_SENDER, BATMAN_PASSED_ON, "call") &&
+           came(p->in_bursts, BATMAN_NOT_IN_USE, BATMAN_LINKS_FULL, "packet of a burst") &&
+           came(p->in_bursts, BATMAN_OWN_SENDER, BATMAN_PASSED_ON, "packet of a burst");
 }
 
 bool compare(const struct version *const *versions, int n, unsigned long calls)
@@ -321,8 +448,9 @@ bool compare(const struct version *const *versions, int n, unsigned long calls)
         same = play_history(&p);
     same = same && every_number_came(&p);
     if (same)
-        printf("%lu calls on %d versions, %lu of them on damaged tables: the same answers, outputs and cells; every refusal and verdict came up\n",
-               p.calls, n, p.damaged);
+        printf("%lu calls on %d versions, %lu of them bursts and %lu on damaged tables: the same answers, outputs and cells; every refusal and "
+               "verdict came up\n",
+               p.calls, n, p.bursts, p.damaged);
     for (int i = 0; i < n; i++)
         free(p.table[i]);
     free(p.spare[0]);

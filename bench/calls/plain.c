@@ -2,6 +2,7 @@
  * The answers are the same; the state is trusted, so refusal 1 never comes. Compiled once by each compiler, as cells.c is. */
 #include <string.h>
 
+#include "burst.h"
 #include "calls.h"
 #include "wire.h"
 
@@ -282,6 +283,8 @@ static struct batman_received receive(void *table, size_t count, const uint8_t *
     return others_message(p, &m, packet, length, output);
 }
 
+static struct batman_burst burst(void *table, size_t count, const struct burst *b) { return receive_burst(receive, table, count, b); }
+
 /* ---- the other calls */
 
 static size_t size(uint64_t capacity)
@@ -376,4 +379,4 @@ static struct batman_asked best(const void *table, size_t count, uint32_t origin
     return (struct batman_asked){0, route_by(p, find((struct plain *)p, originator))};
 }
 
-const struct version VERSION = {"plain", false, size, make, receive, own_packet, sweep, best, packet_check};
+const struct version VERSION = {"plain", false, size, make, receive, burst, own_packet, sweep, best, packet_check};

@@ -14,6 +14,12 @@ static struct batman_received receive(void *table, size_t count, const uint8_t *
     return batman_receive(table, count, packet, length, sender, interface, time, output, room);
 }
 
+static struct batman_burst burst(void *table, size_t count, const struct burst *b)
+{
+    return batman_receive_burst(table, count, b->octets, b->length, b->lengths, b->lengths_count, b->senders, b->senders_count, b->interfaces,
+                                b->interfaces_count, b->time, b->output, b->room, b->answers, b->rows);
+}
+
 static struct batman_written own_packet(void *table, size_t count, uint64_t interface, uint64_t time, uint8_t ttl, uint8_t gateway,
                                         uint16_t port, const uint8_t *hna, size_t hna_length, uint8_t *output, size_t room)
 {
@@ -24,4 +30,4 @@ static struct batman_swept sweep(void *table, size_t count, uint64_t time) { ret
 
 static struct batman_asked best(const void *table, size_t count, uint32_t originator) { return batman_best(table, count, originator); }
 
-const struct version proved = {"proved", true, size, make, receive, own_packet, sweep, best, batman_packet_check};
+const struct version proved = {"proved", true, size, make, receive, burst, own_packet, sweep, best, batman_packet_check};
