@@ -126,8 +126,8 @@ struct batman_route {
 
 struct batman_received {
     uint64_t number, place;
-    uint8_t flags;             /* with 26: octet 1 of the copies for the other interfaces */
     struct batman_route route; /* to the packet's originator, as the call leaves the table */
+    uint8_t flags;             /* with 26: octet 1 of the copies for the other interfaces */
 };
 
 struct batman_burst {

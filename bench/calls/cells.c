@@ -290,10 +290,10 @@ static inline struct fault call_fault(const uint64_t *c, uint64_t interface, uin
 
 static inline struct batman_received answer(uint64_t number, struct batman_route route)
 {
-    return (struct batman_received){number, 0, 0, route};
+    return (struct batman_received){.number = number, .route = route};
 }
 
-static inline struct batman_received refusal(struct fault f) { return (struct batman_received){f.number, f.place, 0, {0, 0, 0, 0}}; }
+static inline struct batman_received refusal(struct fault f) { return (struct batman_received){.number = f.number, .place = f.place}; }
 
 static inline bool listed(const uint64_t *c, size_t field, uint32_t address)
 {
@@ -345,7 +345,7 @@ static struct batman_received others_message(uint64_t *c, const uint8_t *packet,
     if (m->ttl < TTL_LEAST || !(direct || by_best))
         return answer(25, route);
     pass_on(output, packet, length, direct, bidirectional);
-    return (struct batman_received){26, 0, packet[1] & UNNAMED, route};
+    return (struct batman_received){.number = 26, .flags = packet[1] & UNNAMED, .route = route};
 }
 
 /* A packet behind the check. */

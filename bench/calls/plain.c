@@ -185,12 +185,12 @@ static struct originator *first_message(struct plain *p, const struct message *m
 
 /* ---- receive */
 
-static inline struct batman_received refusal(struct fault f) { return (struct batman_received){f.number, f.place, 0, {0, 0, 0, 0}}; }
+static inline struct batman_received refusal(struct fault f) { return (struct batman_received){.number = f.number, .place = f.place}; }
 
 static inline struct batman_received verdict(struct plain *p, uint64_t number, const struct message *m)
 {
     p->time = m->time;
-    return (struct batman_received){number, 0, 0, route_by(p, find(p, m->originator))};
+    return (struct batman_received){.number = number, .route = route_by(p, find(p, m->originator))};
 }
 
 static inline const struct sender *own_by(const struct plain *p, uint32_t address)
@@ -248,9 +248,9 @@ static struct batman_received others_message(struct plain *p, const struct messa
     struct batman_route route = route_by(p, o);
     bool by_best = bidirectional && fresh && route.neighbour == m->sender && route.interface == m->interface;
     if (m->ttl < TTL_LEAST || !(direct || by_best))
-        return (struct batman_received){25, 0, 0, route};
+        return (struct batman_received){.number = 25, .route = route};
     pass_on(output, packet, length, direct, bidirectional);
-    return (struct batman_received){26, 0, m->flags & UNNAMED, route};
+    return (struct batman_received){.number = 26, .flags = m->flags & UNNAMED, .route = route};
 }
 
 /* The refusals that receive and own packet have in common. */

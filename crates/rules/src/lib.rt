@@ -61,14 +61,14 @@ pub struct LinkRow {
     pub best: u32,
 }
 
-// The answer to a received packet: a refusal or verdict, the place that 8 carries, the flags octet for the other
-// interfaces, and the route of the packet's originator.
+// The answer to a received packet: a refusal or verdict, the place that 8 carries, the route of the packet's originator, and the flags octet for the
+// other interfaces. The octet is last, so that the struct has no gap inside and is copied in whole words.
 #[repr(C)]
 pub struct Received {
     pub number: u64,
     pub place: u64,
-    pub flags: u8,
     pub route: Route,
+    pub flags: u8,
 }
 
 // The answer to an own packet: its length and sequence number.
