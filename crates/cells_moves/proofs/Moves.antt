@@ -7,8 +7,10 @@ use native.Mathlib.Omega.{arith}
 use native.Mathlib.Numerals.{add-one}
 use lib.ListN.{length, take, drop, set, getD, take-append-drop, length-append, length-drop, List·getD-append}
 use lib.Seq.{take-suc, drop-cons, append-snoc, set-at, length-take-le, getD-take, getD-drop, take-length, drop-at, take-append-le, paste, paste-suc, length-paste-head, getD-append-add, take-all, take-add, take-take, drop-length}
+use borrow.Rule.Slice.PartMut.{putMid}
 use Rattle.cells.specs.Area.{fit, zeros, written, movedUp, putIn}
-use Rattle.cells.proofs.Areas.{fit-at, length-fit, getD-fit}
+use Rattle.cells.proofs.Areas.{fit-at, fit-zeros, length-fit, getD-fit}
+use Rattle.cells.proofs.Lent.{tail-length, tail-back}
 
 -- ---- a copy, turn by turn: `paste c at s j` has the first j cells of s over those of c from `at` on
 
@@ -36,6 +38,15 @@ zeros-done c i e =
     let z : List ℕ = zeros (length c) in
     let k : 0 + i ≡ length c = omega arith in
     (λ j. take-all i z (rw (length-fit (length c) []) (omega arith)) j ++ drop (k j) c) ∙ ap (λ (l : List ℕ). z ++ l) (drop-length c) ∙ append-nil z
+
+-- a row written over the first cells, and zeros over what follows it
+pub filled : (c row x ys : List ℕ) → length row ≤ length c → x ≡ written c 0 row → length x ≡ length c → ys ≡ zeros (length (take (length x - length row) (drop (length row) x))) → putMid (length row) (length x - length row) x ys ≡ fit (length c) row
+filled c row x ys h e l z =
+    let n = length c - length row in
+    tail-back x (length row) ys (omega arith)
+    ∙ (λ j. take (length row) (e j) ++ (z ∙ ap zeros (tail-length x (length row) ∙ ap (λ (k : ℕ). k - length row) l)) j)
+    ∙ ap (λ (t : List ℕ). t ++ zeros n) (take-append-le (length row) row (drop (0 + length row) c) (omega arith) ∙ take-length row)
+    ∙ sym (fit-zeros (length c) n row (omega arith))
 
 -- a cell that the copy has not reached is as it was
 pub paste-ahead : (c s : List ℕ) (at j k : ℕ) → at + j ≤ k → k < length c → j ≤ length s → getD (paste c at s j) k 0 ≡ getD c k 0

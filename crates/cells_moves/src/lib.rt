@@ -3,7 +3,7 @@
 ghost use mathlib.Core.Path.{_≡_};
 ghost use Prim.Native.Nat.{_+_, _≤_};
 ghost use lib.ListN.{length, take, drop};
-ghost use Rattle.cells.specs.Area.{zeros, written, movedUp, putIn};
+ghost use Rattle.cells.specs.Area.{fit, zeros, written, movedUp, putIn};
 
 // Fills the cells with zeros.
 pub fn clear(cells: &mut [u64])
@@ -26,6 +26,16 @@ pub fn write(cells: &mut [u64], at: usize, row: &[u64])
         cells[at + j] = row[j];
         j += 1;
     }
+}
+
+// Writes a row over the first cells, and zeros over all behind it.
+pub fn fill(cells: &mut [u64], row: &[u64])
+    requires { ⌜ length (now row) ≤ length (now cells) ⌝ }
+    ensures { λ _. ⌜ now (cells .exit) ≡ fit (length (now (cells .entry))) (now (row .entry)) ⌝ }
+{
+    write(cells, 0, row);
+    let n = row.len();
+    clear(&mut cells[n..]);
 }
 
 // Moves w cells down, from one place to a lower one; the two may overlap. Where they are one place, nothing is touched.

@@ -3,19 +3,21 @@ use mathlib.Core.Path.{_≡_, refl, sym, ap, _∙_, subst}
 use mathlib.Core.List.{List, [], _∷_, _++_, append-nil}
 use mathlib.Core.Bool.{Bool, true, cond, _&&_, _||_}
 use mathlib.Core.Option.{Option}
-use Prim.Native.Nat.{ℕ, zero, suc, _+_, _*_, _%_, _≤_, _<_}
+use Prim.Native.Nat.{ℕ, zero, suc, _*_, _-_, _%_, _≤_, _<_}
 use native.Mathlib.Nat.{not-suc-le-zero, le-of-suc-le-suc, mod-eq-of-lt}
 use native.Mathlib.Omega.{arith}
 use lib.Dec.{eqb}
 use borrow.Author.Tests.{ltb-true, le-leb, lt-leb}
-use lib.ListN.{length, take, drop, set, getD}
-use lib.Seq.{drop-drop, drop-length, getD-set-same}
+use lib.ListN.{length, take, drop, set, getD, length-set}
+use lib.Seq.{getD-set-same}
+use borrow.Rule.Slice.PartMut.{putMid, same-len-mid}
 use Rattle.lists.specs.Lists.{keep, maybe}
 use Rattle.lists.specs.Keyed.{put, mapValues}
 use Rattle.lists.proofs.Tests.{cond-same}
 use Rattle.lists.proofs.Keyed.{lookup-put, lookup-kept}
-use Rattle.cells.specs.Area.{fit, written}
-use Rattle.cells.proofs.Lent.{cells-from}
+use Rattle.cells.specs.Area.{fit}
+use Rattle.cells.proofs.Areas.{fit-zeros, length-rows}
+use Rattle.cells.proofs.Lent.{tail-length, tail-back, cells-from}
 use Rattle.window.specs.Window.{numbers, distance, inside, advance, bit, marked, shift, mark}
 use Rattle.window.specs.Marks.{wordOf}
 use Rattle.window.proofs.Numbers.{distance-self}
@@ -25,7 +27,7 @@ use Rattle.rules.specs.Settings.{Config, Follows, linkMost, linkCells, recordHe
 use Rattle.rules.specs.Rules.{sequenceOf}
 use Rattle.rules.specs.Table.{TableRecord, marksAt, isHighest, firstRecord, nextRecord, isMarked}
 use Rattle.rules.proofs.Counting.{advance-inside}
-use Rattle.table_record.specs.Links.{linkArea, linksFrom}
+use Rattle.table_record.specs.Links.{linkRow, linkArea, linksFrom}
 use Rattle.table_record.specs.Record.{addressAt, currentAt, timeAt, lastTtlAt, linksAt, bestAt, linksPart, linksOf, encodeRecord, decodeRecord}
 use Rattle.count_best_link.specs.declared.Step.{Step}
 use Rattle.count_best_link.specs.BestLink.{Links, moved, chosen}
@@ -36,15 +38,30 @@ use Rattle.count_links.proofs.Places.{mark-has}
 use Rattle.count_in_record.specs.declared.Counting.the-variants.{Done, LinksFull}
 use Rattle.count_in_record.specs.Counting.{CountedIn}
 
--- five fields and the links written
-pub store-cells : (row links : List ℕ) (a b c d e : ℕ) → length row ≡ recordCells → length links ≡ linkMost * linkCells
-    → written (set (set (set (set (set row currentAt a) timeAt b) lastTtlAt c) linksAt d) bestAt e) recordHeadCells links ≡ getD row addressAt 0 ∷ a ∷ b ∷ c ∷ d ∷ e ∷ links
-store-cells row links a b c d e h k =
-    let z : drop (linkMost * linkCells) (drop recordHeadCells row) ≡ [] = drop-drop (linkMost * linkCells) recordHeadCells row ∙ ap (λ (j : ℕ). drop j row) (sym h) ∙ drop-length row in
-    ap (λ (l : List ℕ). written (set (set (set (set (set l currentAt a) timeAt b) lastTtlAt c) linksAt d) bestAt e) recordHeadCells links) (cells-from addressAt recordHeadCells row (omega arith))
-    ∙ ap (λ (j : ℕ). (getD row addressAt 0 ∷ a ∷ b ∷ c ∷ d ∷ e ∷ []) ++ links ++ drop (recordHeadCells + j) (getD row addressAt 0 ∷ a ∷ b ∷ c ∷ d ∷ e ∷ drop recordHeadCells row)) k
-    ∙ ap (λ (l : List ℕ). getD row addressAt 0 ∷ a ∷ b ∷ c ∷ d ∷ e ∷ (links ++ l)) z
-    ∙ ap (λ (l : List ℕ). getD row addressAt 0 ∷ a ∷ b ∷ c ∷ d ∷ e ∷ l) (append-nil links)
+-- five fields set, and the cells after them lent
+module _ (row : List ℕ) (a b c d e : ℕ) (h : length row ≡ recordCells) where
+  abbrev fields : List ℕ → List ℕ
+  fields l = set (set (set (set (set l currentAt a) timeAt b) lastTtlAt c) linksAt d) bestAt e
+
+  abbrev lent : List ℕ
+  lent = take (length (fields row) - recordHeadCells) (drop recordHeadCells (fields row))
+
+  pub lent-size : length lent ≡ linkMost * linkCells
+  lent-size =
+      let size : length (fields row) ≡ recordCells = simp length-set h in
+      tail-length (fields row) recordHeadCells ∙ ap (λ (n : ℕ). n - recordHeadCells) size
+
+  pub store-size : (ys : List ℕ) → length ys ≡ length lent → length (putMid recordHeadCells (length (fields row) - recordHeadCells) (fields row) ys) ≡ length row
+  store-size ys l =
+      let size : length (fields row) ≡ length row = simp length-set in
+      same-len-mid recordHeadCells (length (fields row) - recordHeadCells) (fields row) ys l ∙ size
+
+  -- they come back with the links and zeros
+  pub store-cells : (ys links : List ℕ) → ys ≡ fit (length lent) links → putMid recordHeadCells (length (fields row) - recordHeadCells) (fields row) ys ≡ getD row addressAt 0 ∷ a ∷ b ∷ c ∷ d ∷ e ∷ fit (linkMost * linkCells) links
+  store-cells ys links k =
+      tail-back (fields row) recordHeadCells ys (simp length-set (omega arith))
+      ∙ ap (λ (l : List ℕ). take recordHeadCells (fields l) ++ ys) (cells-from addressAt recordHeadCells row (omega arith))
+      ∙ ap (λ (l : List ℕ). getD row addressAt 0 ∷ a ∷ b ∷ c ∷ d ∷ e ∷ l) (k ∙ ap (λ (n : ℕ). fit n links) lent-size)
 
 -- ---- a scratch with nothing left to come
 
@@ -64,9 +81,18 @@ module _ {out : List ℕ} {m : ℕ} {goal : Links} (b : Built out m [] goal) whe
   done-cells : out ≡ fit (length out) (cellsOf goal)
   done-cells = b .cells ∙ ap (λ (l : Links). fit (length out) (cellsOf l)) all-there
 
-  -- its first cells are those of a record's links
-  done-links : linkMost * linkCells ≤ length out → take (linkMost * linkCells) out ≡ linkArea linkMost goal
-  done-links h = ap (take (linkMost * linkCells)) done-cells ∙ take-fit (linkMost * linkCells) (length out) (cellsOf goal) h
+  -- the cells of its links, and zeros behind them, are those of a record's links
+  done-links : m * linkCells ≤ length out → fit (linkMost * linkCells) (take (m * linkCells) out) ≡ linkArea linkMost goal
+  unfolding linkRow
+  done-links h =
+      let size : m * linkCells ≡ length (cellsOf goal) = ap (λ (k : ℕ). k * linkCells) done-size ∙ sym (length-rows linkRow linkCells (λ l. refl) goal) in
+      ap (fit (linkMost * linkCells)) (
+      ap (take (m * linkCells)) done-cells
+      ∙ take-fit (m * linkCells) (length out) (cellsOf goal) h
+      ∙ ap (λ (k : ℕ). fit k (cellsOf goal)) size
+      ∙ fit-zeros (length (cellsOf goal)) 0 (cellsOf goal) (omega arith)
+      ∙ append-nil (cellsOf goal)
+      )
 
 -- ---- the next record
 
@@ -123,7 +149,7 @@ module _ (κ : Config) (row : List ℕ) (m : Ogm) {p : Policy} (f : Follows κ p
         (lt-leb (length (after .links)) linkMost (omega arith), refl)
 
     pub counted-now : (row2 : List ℕ) → length out ≡ scratchCells → left .links ≤ linkMost
-        → row2 ≡ getD row addressAt 0 ∷ next ∷ m .time ∷ m .ttl ∷ left .links ∷ left .best ∷ take (linkMost * linkCells) out → CountedIn κ m row row2 (Done (left .marks))
+        → row2 ≡ getD row addressAt 0 ∷ next ∷ m .time ∷ m .ttl ∷ left .links ∷ left .best ∷ fit (linkMost * linkCells) (take (left .links * linkCells) out) → CountedIn κ m row row2 (Done (left .marks))
     unfolding encodeRecord nextRecord decodeRecord
     counted-now row2 len h e =
         let es = done-size links-are in (
@@ -158,12 +184,12 @@ module _ (κ : Config) (m : Ogm) (small : m .sequence < numbers) where
       ap (λ (t : Bool). cond (t || eqb (m .link) best) ls []) (mark-has 0 (distance n n)) ∙ ap (λ (k : ℕ). (m .link, mark 0 k) ∷ []) (distance-self n) in
       sym (λ i. record { current = mod-eq-of-lt small i; time = m .time; lastTtl = m .ttl; best = eb i; links = el i })
 
-  pub first-cells : (address : ℕ) (before after : List ℕ) {links : List ℕ} {v : ℕ} → 0 < length before → length links ≡ linkMost * linkCells → v ≡ mark 0 0
-      → Built links 1 [] ((m .link, v) ∷ []) → after ≡ getD (set before addressAt address) addressAt 0 ∷ m .sequence ∷ m .time ∷ m .ttl ∷ 1 ∷ m .link ∷ links
+  pub first-cells : (address : ℕ) (before after : List ℕ) {links : List ℕ} {v : ℕ} → 0 < length before → length links ≡ linkCells → v ≡ mark 0 0
+      → Built links 1 [] ((m .link, v) ∷ []) → after ≡ getD (set before addressAt address) addressAt 0 ∷ m .sequence ∷ m .time ∷ m .ttl ∷ 1 ∷ m .link ∷ fit (linkMost * linkCells) links
       → after ≡ encodeRecord (address, firstRecord κ m)
-  unfolding encodeRecord
+  unfolding encodeRecord linkRow
   first-cells address before after {links} {v} h len ev b e =
-      let l : links ≡ linkArea linkMost ((m .link, mark 0 0) ∷ []) = done-cells b ∙ (λ i. fit (len i) (cellsOf ((m .link, ev i) ∷ []))) in
+      let l : fit (linkMost * linkCells) links ≡ linkArea linkMost ((m .link, mark 0 0) ∷ []) = ap (fit (linkMost * linkCells)) (done-cells b ∙ (λ i. fit (len i) (cellsOf ((m .link, ev i) ∷ [])))) in
       e ∙ (λ i. getD-set-same before addressAt address 0 h i ∷ m .sequence ∷ m .time ∷ m .ttl ∷ 1 ∷ m .link ∷ l i) ∙ ap (λ (r : TableRecord). encodeRecord (address, r)) first-is
 
 -- ---- a number that was counted before

@@ -1,5 +1,5 @@
 // What a message does to its originator's record, in the record's row of cells: it is counted or not, and then answered.
-use cells_moves::write;
+use cells_moves::fill;
 use count_best_link::Step;
 use count_links::Left;
 use count_links::Spot;
@@ -32,8 +32,9 @@ use window::no_marks;
 ghost use mathlib.Core.Path.{_≡_};
 ghost use mathlib.Core.Bool.{true};
 ghost use mathlib.Core.List.{_∷_};
-ghost use Prim.Native.Nat.{_*_};
+ghost use Prim.Native.Nat.{_*_, _≤_};
 ghost use lib.ListN.{length, getD};
+ghost use Rattle.cells.specs.Area.{fit};
 ghost use Rattle.window.specs.Marks.{wordOf};
 ghost use Rattle.rules.specs.Settings.{Config, Follows, Bounded, isAddress, linkMost, linkCells, recordCells};
 ghost use Rattle.rules.specs.Calls.{neighbourOf};
@@ -66,17 +67,17 @@ pub enum Heard {
     LinksFull,
 }
 
-// Writes a record's cells after its address: the window's current number, the message that was counted, and the links.
+// Writes a record's cells after its address: the window's current number, the message that was counted, the links, and zeros behind them.
 fn store(row: &mut [u64], current: u16, m: Ogm, left: Left, links: &[u64])
-    requires { ⌜ (length (now row) ≡ recordCells) × (length (now links) ≡ linkMost * linkCells) ⌝ }
-    ensures { λ _. ⌜ now (row .exit) ≡ getD (now (row .entry)) addressAt 0 ∷ current ∷ m .time ∷ m .ttl ∷ left .links ∷ left .best ∷ now (links .entry) ⌝ }
+    requires { ⌜ (length (now row) ≡ recordCells) × (length (now links) ≤ linkMost * linkCells) ⌝ }
+    ensures { λ _. ⌜ now (row .exit) ≡ getD (now (row .entry)) addressAt 0 ∷ current ∷ m .time ∷ m .ttl ∷ left .links ∷ left .best ∷ fit (linkMost * linkCells) (now (links .entry)) ⌝ }
 {
     row[CURRENT] = current as u64;
     row[TIME] = m.time;
     row[LAST_TTL] = m.ttl as u64;
     row[LINKS] = left.links as u64;
     row[BEST] = left.best;
-    write(row, FIELDS, links);
+    fill(&mut row[FIELDS..], links);
 }
 
 // Counts a message whose link stands at this spot. Nothing changes where the links are full: they are written to a scratch first, and to the row
@@ -100,7 +101,8 @@ fn count_message(row: &mut [u64], p: Policy, m: Ogm, spot: Spot) -> Counting
     if LINKS_MOST < left.links as u64 {
         return Counting::LinksFull;
     }
-    store(row, next, m, left, &out[..LINKS_CELLS]);
+    let end = left.links * LINK;
+    store(row, next, m, left, &out[..end]);
     let marks = left.marks;
     Counting::Done(marks)
 }
@@ -111,7 +113,7 @@ pub fn first_record(row: &mut [u64], address: u64, p: Policy, m: Ogm) -> Route
     ensures { λ r. ⌜ ((κ : Config) → Follows κ p → FirstIn κ m address (now (row .exit)) r) ⌝ }
 {
     let marks = mark(no_marks(), 0);
-    let mut links = [0u64; LINKS_CELLS];
+    let mut links = [0u64; LINK];
     put_link(&mut links, 0, m.link, marks);
     row[ADDRESS] = address;
     let left = Left {

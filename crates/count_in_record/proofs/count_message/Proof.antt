@@ -2,7 +2,7 @@
 use borrow.Author.Needs.{needs}
 use mathlib.Core.Path.{_≡_, refl, sym, ap, subst}
 use mathlib.Core.List.{List}
-use Prim.Native.Nat.{ℕ, _*_, _<_}
+use Prim.Native.Nat.{ℕ, _*_, _≤_, _<_}
 use native.Mathlib.Omega.{arith}
 use lib.ListN.{length, take, getD}
 use lib.Seq.{length-take-le}
@@ -28,7 +28,7 @@ abbrev from-out : tie.After-out2 → tie.After-links-part
 from-out c = c .before .before
 
 abbrev from-store : tie.After-out3 → tie.After-out2
-from-store c = c .before .before .before
+from-store c = c .before .before .before .before
 
 -- its number has two octets
 small : (s : tie.Start) → s .args .m .sequence < numbers
@@ -56,14 +56,17 @@ returns c κ f =
     (out .before .recount .ensures) (c .if1 .taken)
 
 -- the links, as they are lent to be written
-abbrev written-links : tie.After-out2 → List ℕ
-written-links c = take (linkMost * linkCells) (c .before .recount .last .0)
+abbrev end : tie.After-out2 → ℕ
+end c = c .before .recount .result .links * linkCells
 
-links-length : (c : tie.After-out2) → length (written-links c) ≡ linkMost * linkCells
-links-length c = length-take-le (linkMost * linkCells) (c .before .recount .last .0) (omega (arith, c .before .recount .kept .0))
+links-length : (c : tie.After-out2) → c .before .recount .result .links ≤ linkMost → length (take (end c) (c .before .recount .last .0)) ≡ end c
+links-length c h = length-take-le (end c) (c .before .recount .last .0) (omega (arith, c .before .recount .kept .0))
 
 store-requires : tie.Need-store-requires
-store-requires c κs = let out = from-store c in (from-advance (from-links (from-out out)) .pre .0 .size, links-length out)
+store-requires c κs =
+    let out = from-store c in
+    let h = c .before .before .before .if1 .left in
+    (from-advance (from-links (from-out out)) .pre .0 .size, omega (arith, links-length out h))
 
 returns-2 : tie.Need-returns-2
 returns-2 c κ f =
@@ -73,7 +76,7 @@ returns-2 c κ f =
     let next = from-links links in
     let a = from-advance next .args in
     counted-now κ (a .row .now) (a .m) f (small (from-advance next)) (next .advance .ensures) (links .before .before .before .before .distance .ensures) (links .before .before .before .distance2 .ensures) (links .links-part .ensures)
-    (out .before .recount .ensures) _ (out .before .recount .kept .0) (stored .before .before .before .if1 .left) (stored .store .ensures)
+    (out .before .recount .ensures) _ (out .before .recount .kept .0) (stored .before .before .before .before .if1 .left) (stored .store .ensures)
 
 pub count-message-spec : {M : Type 1} → statement M
 count-message-spec =
@@ -92,7 +95,8 @@ count-message-spec =
     (λ c. search needs)
     returns
     (λ c. search needs)
-    (λ c. sym (links-length (from-store c)))
+    (λ c. search needs)
+    (λ c. sym (links-length (from-store c) (c .before .before .before .if1 .left)))
     store-requires
     (λ c. search needs)
     returns-2)

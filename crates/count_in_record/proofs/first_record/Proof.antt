@@ -2,12 +2,12 @@
 use borrow.Author.Needs.{needs}
 use mathlib.Core.Path.{refl, ap, _∙_}
 use mathlib.Core.List.{[], _∷_}
-use Prim.Native.Nat.{ℕ, _*_, _<_}
+use Prim.Native.Nat.{ℕ, _<_}
 use native.Mathlib.Omega.{arith}
 use lib.ListN.{length-set}
 use Rattle.window.specs.Window.{numbers, mark}
 use Rattle.window.specs.Marks.{wordOf}
-use Rattle.rules.specs.Settings.{linkMost, linkCells}
+use Rattle.rules.specs.Settings.{linkCells}
 use Rattle.count_best_link.specs.BestLink.{Links}
 use Rattle.count_links.proofs.Cells.{built-start, built-put}
 use Rattle.count_in_record.proofs.Rows.{first-cells}
@@ -51,7 +51,7 @@ returns c κ f =
     let a = s .args in
     let l : ℕ × ℕ = (a .m .link, wordOf (marked .mark .result)) in
     let goal : Links = l ∷ [] in
-    let b = built-put 0 l [] goal (omega arith) (put .put-link .ensures) (put .put-link .kept .0) (built-start _ (linkMost * linkCells) goal refl) in
+    let b = built-put 0 l [] goal (omega arith) (put .put-link .ensures) (put .put-link .kept .0) (built-start _ linkCells goal refl) in
     let e = marked .mark .ensures ∙ ap (λ (v : ℕ). mark v 0) (marked .before .no-marks .ensures) in
     record {
       cells = first-cells κ (a .m) (small s) (a .address) (a .row .now) _ (omega arith) (put .put-link .kept .0) e b (stored .store .ensures);

@@ -1,30 +1,43 @@
--- Five cells are set and the links written after them, so the row is the address and these.
+-- Five cells are set, and those after them are lent to be filled with the links, so the row is the address and these.
 use borrow.Author.Needs.{needs}
-use mathlib.Core.Path.{_∙_}
 use native.Mathlib.Omega.{arith}
 use lib.ListN.{length-set}
-use Rattle.count_in_record.proofs.Rows.{store-cells}
+use Rattle.count_in_record.proofs.Rows.{lent-size, store-size, store-cells}
 use Rattle.count_in_record.proofs.store.Statement.{statement}
 use Rattle.count_in_record.proofs.store.Tie as tie
+
+-- the function's entry
+abbrev from-fields : tie.After-struct-known → tie.Start
+from-fields c = c .before .before .before
 
 slice-write-row-5 : tie.Need-slice-write-row-5
 slice-write-row-5 c = simp length-set (omega arith)
 
-write-requires : tie.Need-write-requires
-write-requires c κs = simp length-set (omega arith)
+sub-fill : tie.Need-sub-fill
+sub-fill c = simp length-set (omega arith)
+
+part-fill-start : tie.Need-part-fill-start
+part-fill-start c = simp length-set (omega arith)
+
+fill-requires : tie.Need-fill-requires
+fill-requires c κs =
+    let s = from-fields (c .before) in
+    let a = s .args in
+    omega (arith, lent-size (a .row .now) (a .current) (a .m .time) (a .m .ttl) (a .left .links) (a .left .best) (s .pre .0), s .pre .1)
 
 same-length : tie.Need-same-length
-same-length c = c .before .before .write .kept .0 ∙ simp length-set
-
--- the function's entry
-abbrev from-write : tie.After-write → tie.Start
-from-write c = c .before .before .before .before .before
+same-length c =
+    let f = c .before .before in
+    let s = from-fields (f .before .before) in
+    let a = s .args in
+    store-size (a .row .now) (a .current) (a .m .time) (a .m .ttl) (a .left .links) (a .left .best) (s .pre .0) (f .fill .last .0) (f .fill .kept .0)
 
 returns : tie.Need-returns
 returns c =
-    let s = from-write (c .before .before) in
+    let f = c .before .before in
+    let s = from-fields (f .before .before) in
     let a = s .args in
-    c .before .before .write .ensures ∙ store-cells (a .row .now) (a .links .now) (a .current) (a .m .time) (a .m .ttl) (a .left .links) (a .left .best) (s .pre .0) (s .pre .1)
+    store-cells (a .row .now) (a .current) (a .m .time) (a .m .ttl) (a .left .links) (a .left .best) (s .pre .0) (f .fill .last .0) (a .links .now) (f .fill .ensures)
 
 pub store-spec : {M : Type 1} → statement M
 store-spec =
@@ -36,6 +49,9 @@ store-spec =
     (λ c. search needs)
     (λ c. search needs)
     slice-write-row-5
-    write-requires
+    sub-fill
+    part-fill-start
+    (λ c. search needs)
+    fill-requires
     same-length
     returns)
