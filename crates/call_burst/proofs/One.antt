@@ -1,32 +1,26 @@
--- One packet of a burst: what the rest of the output is lent as and comes back as, and that the packet is a single call. Assumes nothing.
-use Prim.Native.Nat.{ℕ, _+_, _-_, _≤_}
-use mathlib.Core.Path.{_≡_, refl, sym, ap, _∙_, subst}
-use mathlib.Core.List.{List, [], _++_, append-nil}
+-- One packet of a burst is a single call, given the rest of the output. Assumes nothing.
+use Prim.Native.Nat.{ℕ, _-_, _≤_}
+use mathlib.Core.Path.{_≡_, sym, ap, _∙_, subst}
+use mathlib.Core.List.{List}
 use lib.ListN.{length, take, drop, length-drop}
-use lib.Seq.{take-all, drop-at, drop-length, length-take-le}
+use lib.Seq.{drop-at, length-take-le}
 use native.Mathlib.Omega.{arith}
-use borrow.Rule.Slice.PartMut.{midOf, putMid, post-is, same-len-mid, take-put}
+use borrow.Rule.Slice.PartMut.{midOf, putMid, same-len-mid, take-put}
+use Rattle.cells.proofs.Lent.{tail-is, tail-back}
 use Rattle.rules.specs.declared.Received.{Received}
 use Rattle.rules.specs.Calls.{singleCall, receive, received, Reply, numberOf, answeredWriting}
 use Rattle.rules.specs.Table.{table}
 use Rattle.rules.proofs.Bursts.{copy-fits}
 use Rattle.table_layout.specs.Cells.{decode}
-use Rattle.table_layout.specs.Calls.{Done, callOn, Performed}
+use Rattle.table_layout.specs.Calls.{Done, Performed}
 use Rattle.table_layout.specs.Facts.{Knows}
 use Rattle.table_layout.proofs.Calls.{goes-on}
 use Rattle.table_check.proofs.Knowing.{well-formed}
 use Rattle.call_burst.specs.Bursts.{packetAt, Spaces, One}
 
--- the rest of the output o from f on, and with y in its place
-module _ (o y : List ℕ) (f : ℕ) (h : f ≤ length o) where
-  abbrev left : List ℕ
-  left = putMid f (length o - f) o y
-
-  pub lent : midOf f (length o - f) o ≡ drop f o
-  lent = take-all (length o - f) (drop f o) (omega (arith, length-drop f o))
-
-  pub rest : drop f left ≡ y
-  rest = drop-at (take f o) _ f (length-take-le f o h) ∙ ap (λ (z : List ℕ). y ++ z) (post-is f (length o) o h ∙ drop-length o) ∙ append-nil y
+-- the rest of the output o from f on, once y stands in its place
+rest : (o y : List ℕ) (f : ℕ) → f ≤ length o → drop f (putMid f (length o - f) o y) ≡ y
+rest o y f h = ap (drop f) (tail-back o f y h) ∙ drop-at (take f o) y f (length-take-le f o h)
 
 module _ (c buffer : List ℕ) (at n sender interface time : ℕ) (o : List ℕ) (f : ℕ) (s : Spaces c buffer at n o f) where
   -- its octets are as many as its length says
@@ -37,7 +31,7 @@ module _ (c buffer : List ℕ) (at n sender interface time : ℕ) (o : List ℕ)
       → Performed c (receive (singleCall time (midOf f (length o - f) o) (packetAt buffer at k sender interface))) (answeredWriting (received r) y) d → Knows d
       → One c buffer at n sender interface time o f d (putMid f (length o - f) o y) r
   one k m d y r l p g =
-      let e = lent o y f (s .rest) in
+      let e = tail-is o f in
       let v = subst (λ (j : ℕ). Performed c (receive (singleCall time (midOf f (length o - f) o) (packetAt buffer at j sender interface))) (answeredWriting (received r) y) d) m p in
       let w = subst (λ (z : List ℕ). Performed c (receive (singleCall time z (packetAt buffer at n sender interface))) (answeredWriting (received r) y) d) e v in
       record {

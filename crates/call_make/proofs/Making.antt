@@ -3,16 +3,15 @@ use mathlib.Core.Path.{_≡_, refl, sym, ap, _∙_}
 use mathlib.Core.List.{List, [], _∷_, _++_, map, append-assoc}
 use mathlib.Core.Bool.{Bool, true, false, cond, _&&_, not, and-true}
 use Prim.Native.Nat.{ℕ, zero, suc, _+_, _*_, _-_, _≤_, _<_}
-use native.Mathlib.Nat.{zero-add}
 use native.Mathlib.Omega.{arith}
 use lib.Dec.{ltb, eqb}
 use lib.ListN.{length, take, drop, getD}
 use lib.Seq.{length-take-le, take-at, drop-append-add}
 use borrow.Author.Tests.{lt-ltb, eqb-true}
 use Rattle.lists.specs.Lists.{and, all}
-use Rattle.cells.specs.Area.{zeros, written}
+use Rattle.cells.specs.Area.{fit, zeros, written}
 use Rattle.lists.proofs.Tests.{and-left, and-right, both, and-at}
-use Rattle.cells.proofs.Areas.{drop-zeros, zeros-append, length-area}
+use Rattle.cells.proofs.Areas.{fit-zeros, drop-zeros, zeros-append, length-area}
 use Rattle.cells.proofs.Trips.{map-take}
 use Rattle.window.specs.Window.{numbers}
 use Rattle.wire.specs.Check.{given}
@@ -120,25 +119,24 @@ rows-are rows n l h {a} {b} {c} {d} e x y z ex ey ez =
 pub length-fresh : (rows : List Interface) (n : ℕ) → length (freshRows rows n) ≡ interfaceAreaCells
 length-fresh rows n = length-area encodeInterface interfaceCells interface-wide interfaceMost (rowsWith [] 0 (take n rows))
 
--- zeros, with h written over the first of them and f behind it
-two-written : (n : ℕ) (h f : List ℕ) → written (written (zeros n) 0 h) (length h) f ≡ h ++ (f ++ zeros (n - length h - length f))
-two-written n h f =
+-- h and zeros, with f written behind h
+two-written : (n : ℕ) (h f : List ℕ) → length h ≤ n → written (fit n h) (length h) f ≡ h ++ (f ++ zeros (n - length h - length f))
+two-written n h f l =
     let m = n - length h in
-    let y : written (zeros n) 0 h ≡ h ++ zeros m = ap (λ (k : ℕ). h ++ drop k (zeros n)) (zero-add (length h)) ∙ ap (λ (l : List ℕ). h ++ l) (drop-zeros (length h) n) in
     let d : drop (length h + length f) (h ++ zeros m) ≡ zeros (m - length f) = drop-append-add h (zeros m) (length f) ∙ drop-zeros (length f) m in
-    ap (λ (c : List ℕ). written c (length h) f) y ∙ (λ i. take-at h (zeros m) (length h) refl i ++ f ++ d i) ∙ append-assoc h f (zeros (m - length f))
+    ap (λ (c : List ℕ). written c (length h) f) (fit-zeros n m h (omega arith)) ∙ (λ i. take-at h (zeros m) (length h) refl i ++ f ++ d i) ∙ append-assoc h f (zeros (m - length f))
 
--- zeros, the head and the interface rows written over them
-pub fresh-cells : (n : ℕ) (a : MakeArgs) → length (a .rows) ≡ interfaceMost → makeAllowed n a ≡ true → (x y z head rows : List ℕ) → x ≡ zeros n
-    → head ≡ freshHead (a .settings) (a .used) → rows ≡ freshRows (a .rows) (a .used) → y ≡ written x 0 head → z ≡ written y headCells rows → z ≡ encode (fresh table (configOf a))
+-- the head and zeros, the interface rows written behind the head
+pub fresh-cells : (n : ℕ) (a : MakeArgs) → length (a .rows) ≡ interfaceMost → makeAllowed n a ≡ true → (y z head rows : List ℕ)
+    → head ≡ freshHead (a .settings) (a .used) → rows ≡ freshRows (a .rows) (a .used) → y ≡ fit n head → z ≡ written y headCells rows → z ≡ encode (fresh table (configOf a))
 unfolding encode
-fresh-cells n a four h x y z head rows ex eh er ey ez =
+fresh-cells n a four h y z head rows eh er ey ez =
     let k = a .settings .capacity * recordCells in
     let l = length-fresh (a .rows) (a .used) in
     let m : n - headCells - length (freshRows (a .rows) (a .used)) ≡ neighbourAreaCells + k = omega (arith, allowed-size n a h) in
     let used : a .used ≡ length (take (a .used) (a .rows)) = sym (length-take-le (a .used) (a .rows) (omega (arith, within-high 1 interfaceMost (a .used) (allowed-used n a h)))) in
-    ez ∙ (λ i. written (ey i) headCells (er i)) ∙ (λ i. written (written (ex i) 0 (eh i)) headCells (freshRows (a .rows) (a .used)))
-    ∙ two-written n (freshHead (a .settings) (a .used)) (freshRows (a .rows) (a .used))
+    ez ∙ (λ i. written ((ey ∙ ap (fit n) eh) i) headCells (er i))
+    ∙ two-written n (freshHead (a .settings) (a .used)) (freshRows (a .rows) (a .used)) (omega (arith, allowed-size n a h))
     ∙ (λ i. freshHead (a .settings) (used i) ++ (freshRows (a .rows) (a .used) ++ (ap zeros m ∙ sym (zeros-append neighbourAreaCells k)) i))
 
 -- ---- the rules

@@ -1,5 +1,5 @@
 // Making a table in the cells that are lent.
-use cells_moves::clear;
+use cells_moves::fill;
 use cells_moves::write;
 use rules::Interface;
 use rules::Settings;
@@ -125,8 +125,7 @@ pub fn make(cells: &mut [u64], settings: Settings, rows: [Interface; 4], used: u
     }
     let head = fresh_head(settings, used);
     let interfaces = fresh_rows(rows, used);
-    clear(cells);
-    write(cells, 0, &head);
+    fill(cells, &head);
     write(cells, INTERFACES_FROM, &interfaces);
     0
 }

@@ -58,7 +58,7 @@ fit-in n [] m b h = fit-fit n m b h
 fit-in zero (x ∷ a) m b h = refl
 fit-in (suc n) (x ∷ a) m b h = ap (λ (t : List ℕ). x ∷ t) (fit-in n a m b h)
 
-take-fit : (i n : ℕ) (l : List ℕ) → i ≤ n → i ≤ length l → take i (fit n l) ≡ take i l
+pub take-fit : (i n : ℕ) (l : List ℕ) → i ≤ n → i ≤ length l → take i (fit n l) ≡ take i l
 take-fit zero n l h k = refl
 take-fit (suc i) zero l h k = absurd (not-suc-le-zero h)
 take-fit (suc i) (suc n) [] h k = absurd (not-suc-le-zero k)

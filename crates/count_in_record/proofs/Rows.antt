@@ -3,20 +3,20 @@ use mathlib.Core.Path.{_≡_, refl, sym, ap, _∙_, subst}
 use mathlib.Core.List.{List, [], _∷_, _++_, append-nil}
 use mathlib.Core.Bool.{Bool, true, cond, _&&_, _||_}
 use mathlib.Core.Option.{Option}
-use Prim.Native.Nat.{ℕ, zero, suc, _*_, _-_, _%_, _≤_, _<_}
-use native.Mathlib.Nat.{not-suc-le-zero, le-of-suc-le-suc, mod-eq-of-lt}
+use Prim.Native.Nat.{ℕ, _*_, _-_, _%_, _≤_, _<_}
+use native.Mathlib.Nat.{mod-eq-of-lt}
 use native.Mathlib.Omega.{arith}
 use lib.Dec.{eqb}
 use borrow.Author.Tests.{ltb-true, le-leb, lt-leb}
 use lib.ListN.{length, take, drop, set, getD, length-set}
-use lib.Seq.{getD-set-same}
-use borrow.Rule.Slice.PartMut.{putMid, same-len-mid}
+use lib.Seq.{take-all, getD-set-same}
+use borrow.Rule.Slice.PartMut.{putMid}
 use Rattle.lists.specs.Lists.{keep, maybe}
 use Rattle.lists.specs.Keyed.{put, mapValues}
 use Rattle.lists.proofs.Tests.{cond-same}
 use Rattle.lists.proofs.Keyed.{lookup-put, lookup-kept}
 use Rattle.cells.specs.Area.{fit}
-use Rattle.cells.proofs.Areas.{fit-zeros, length-rows}
+use Rattle.cells.proofs.Areas.{take-fit, length-rows}
 use Rattle.cells.proofs.Lent.{tail-length, tail-back, cells-from}
 use Rattle.window.specs.Window.{numbers, distance, inside, advance, bit, marked, shift, mark}
 use Rattle.window.specs.Marks.{wordOf}
@@ -51,11 +51,6 @@ module _ (row : List ℕ) (a b c d e : ℕ) (h : length row ≡ recordCells) whe
       let size : length (fields row) ≡ recordCells = simp length-set h in
       tail-length (fields row) recordHeadCells ∙ ap (λ (n : ℕ). n - recordHeadCells) size
 
-  pub store-size : (ys : List ℕ) → length ys ≡ length lent → length (putMid recordHeadCells (length (fields row) - recordHeadCells) (fields row) ys) ≡ length row
-  store-size ys l =
-      let size : length (fields row) ≡ length row = simp length-set in
-      same-len-mid recordHeadCells (length (fields row) - recordHeadCells) (fields row) ys l ∙ size
-
   -- they come back with the links and zeros
   pub store-cells : (ys links : List ℕ) → ys ≡ fit (length lent) links → putMid recordHeadCells (length (fields row) - recordHeadCells) (fields row) ys ≡ getD row addressAt 0 ∷ a ∷ b ∷ c ∷ d ∷ e ∷ fit (linkMost * linkCells) links
   store-cells ys links k =
@@ -64,12 +59,6 @@ module _ (row : List ℕ) (a b c d e : ℕ) (h : length row ≡ recordCells) whe
       ∙ ap (λ (l : List ℕ). getD row addressAt 0 ∷ a ∷ b ∷ c ∷ d ∷ e ∷ l) (k ∙ ap (λ (n : ℕ). fit n links) lent-size)
 
 -- ---- a scratch with nothing left to come
-
-take-fit : (i n : ℕ) (l : List ℕ) → i ≤ n → take i (fit n l) ≡ fit i l
-take-fit zero n l h = refl
-take-fit (suc i) zero l h = absurd (not-suc-le-zero h)
-take-fit (suc i) (suc n) [] h = ap (λ (t : List ℕ). 0 ∷ t) (take-fit i n [] (le-of-suc-le-suc h))
-take-fit (suc i) (suc n) (x ∷ l) h = ap (λ (t : List ℕ). x ∷ t) (take-fit i n l (le-of-suc-le-suc h))
 
 module _ {out : List ℕ} {m : ℕ} {goal : Links} (b : Built out m [] goal) where
   all-there : b .links ≡ goal
@@ -86,13 +75,8 @@ module _ {out : List ℕ} {m : ℕ} {goal : Links} (b : Built out m [] goal) whe
   unfolding linkRow
   done-links h =
       let size : m * linkCells ≡ length (cellsOf goal) = ap (λ (k : ℕ). k * linkCells) done-size ∙ sym (length-rows linkRow linkCells (λ l. refl) goal) in
-      ap (fit (linkMost * linkCells)) (
-      ap (take (m * linkCells)) done-cells
-      ∙ take-fit (m * linkCells) (length out) (cellsOf goal) h
-      ∙ ap (λ (k : ℕ). fit k (cellsOf goal)) size
-      ∙ fit-zeros (length (cellsOf goal)) 0 (cellsOf goal) (omega arith)
-      ∙ append-nil (cellsOf goal)
-      )
+      ap (λ (c : List ℕ). fit (linkMost * linkCells) (take (m * linkCells) c)) done-cells
+      ∙ ap (fit (linkMost * linkCells)) (take-fit (m * linkCells) (length out) (cellsOf goal) h (omega (arith, size)) ∙ take-all (m * linkCells) (cellsOf goal) (omega (arith, size)))
 
 -- ---- the next record
 

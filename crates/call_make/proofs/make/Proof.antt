@@ -1,4 +1,4 @@
--- Make refuses by 12 exactly where it is not allowed, and else leaves the cells of a fresh table: zeros, the head and the interface rows written over them.
+-- Make refuses by 12 exactly where it is not allowed, and else leaves the cells of a fresh table: the head, the interface rows written behind it, and zeros.
 use borrow.Author.Needs.{needs}
 use mathlib.Core.Path.{_≡_, sym, ap, _∙_}
 use mathlib.Core.Bool.{true}
@@ -17,14 +17,11 @@ given s = makeArgs (s .args .settings) (s .args .rows) (s .args .used)
 
 -- ---- places, from the end back
 
-abbrev headed : tie.After-interfaces → tie.After-write
-headed c = c .before .before .before .before
+abbrev filled : tie.After-interfaces → tie.After-fill
+filled c = c .before .before .before .before
 
-abbrev cleared : tie.After-head → tie.After-clear
-cleared c = c .before .before .before .before
-
-abbrev filled : tie.After-clear → tie.After-fresh-rows
-filled c = c .before .before
+abbrev rows : tie.After-head → tie.After-fresh-rows
+rows c = c .before .before
 
 abbrev begun : tie.After-fresh-rows → tie.Else1
 begun c = c .before .before
@@ -48,31 +45,30 @@ fresh-rows-requires c κs =
     let h = allowed-used (length (s .args .cells .now)) (given s) (passed (c .before)) in
     (within-low 1 interfaceMost (s .args .used) h, within-high 1 interfaceMost (s .args .used) h)
 
+fill-requires : tie.Need-fill-requires
+fill-requires c κs =
+    let f = rows c in
+    let s = entry (begun f .before) in
+    omega (arith, ap length (f .before .fresh-head .ensures), allowed-size (length (s .args .cells .now)) (given s) (passed (begun f)))
+
 write-requires : tie.Need-write-requires
 write-requires c κs =
-    let f = filled (cleared c) in
+    let h = filled c in
+    let f = rows (h .before) in
     let s = entry (begun f .before) in
-    omega (arith, ap length (f .before .fresh-head .ensures), allowed-size (length (s .args .cells .now)) (given s) (passed (begun f)), cleared c .clear .kept .0)
-
-write-requires-2 : tie.Need-write-requires-2
-write-requires-2 c κs =
-    let w = headed c in
-    let f = filled (cleared (w .before)) in
-    let s = entry (begun f .before) in
-    omega (arith, ap length (f .fresh-rows .ensures), length-fresh (s .args .rows) (s .args .used), allowed-size (length (s .args .cells .now)) (given s) (passed (begun f)), cleared (w .before) .clear .kept .0, w .write .kept .0)
+    omega (arith, ap length (f .fresh-rows .ensures), length-fresh (s .args .rows) (s .args .used), allowed-size (length (s .args .cells .now)) (given s) (passed (begun f)), h .fill .kept .0)
 
 returns-2 : tie.Need-returns-2
 returns-2 c =
-    let b = c .before .before in
-    let w = headed (b .before) in
-    let z = cleared (w .before) in
-    let f = filled z in
+    let w = c .before .before in
+    let h = filled (w .before) in
+    let f = rows (h .before) in
     let s = entry (begun f .before) in
     let xs = s .args .cells .now in
-    let h = passed (begun f) in
-    made-by xs (given s) h _
-    (fresh-cells (length xs) (given s) (s .good .1 .1 .0 .1 .0 .1) h (z .clear .last .0) (w .write .last .0) (b .write2 .last .0) (f .before .fresh-head .result) (f .fresh-rows .result)
-    (z .clear .ensures) (f .before .fresh-head .ensures) (f .fresh-rows .ensures) (w .write .ensures) (b .write2 .ensures))
+    let p = passed (begun f) in
+    made-by xs (given s) p _
+    (fresh-cells (length xs) (given s) (s .good .1 .1 .0 .1 .0 .1) p (h .fill .last .0) (w .write .last .0) (f .before .fresh-head .result) (f .fresh-rows .result)
+    (f .before .fresh-head .ensures) (f .fresh-rows .ensures) (h .fill .ensures) (w .write .ensures))
 
 pub make-spec : {M : Type 1} → statement M
 make-spec =
@@ -82,10 +78,9 @@ make-spec =
     returns
     (λ c κs. search needs)
     fresh-rows-requires
-    (λ c κs. search needs)
+    (λ c. search needs)
+    fill-requires
     (λ c. search needs)
     write-requires
-    (λ c. search needs)
-    write-requires-2
     (λ c. search needs)
     returns-2)

@@ -1,8 +1,12 @@
 -- Five cells are set, and those after them are lent to be filled with the links, so the row is the address and these.
 use borrow.Author.Needs.{needs}
+use mathlib.Core.Path.{ap}
+use Prim.Native.Nat.{_*_}
 use native.Mathlib.Omega.{arith}
-use lib.ListN.{length-set}
-use Rattle.count_in_record.proofs.Rows.{lent-size, store-size, store-cells}
+use lib.ListN.{length, length-set}
+use Rattle.cells.proofs.Areas.{length-fit}
+use Rattle.rules.specs.Settings.{linkMost, linkCells}
+use Rattle.count_in_record.proofs.Rows.{lent-size, store-cells}
 use Rattle.count_in_record.proofs.store.Statement.{statement}
 use Rattle.count_in_record.proofs.store.Tie as tie
 
@@ -25,19 +29,18 @@ fill-requires c κs =
     let a = s .args in
     omega (arith, lent-size (a .row .now) (a .current) (a .m .time) (a .m .ttl) (a .left .links) (a .left .best) (s .pre .0), s .pre .1)
 
-same-length : tie.Need-same-length
-same-length c =
-    let f = c .before .before in
-    let s = from-fields (f .before .before) in
-    let a = s .args in
-    store-size (a .row .now) (a .current) (a .m .time) (a .m .ttl) (a .left .links) (a .left .best) (s .pre .0) (f .fill .last .0) (f .fill .kept .0)
-
 returns : tie.Need-returns
 returns c =
     let f = c .before .before in
     let s = from-fields (f .before .before) in
     let a = s .args in
     store-cells (a .row .now) (a .current) (a .m .time) (a .m .ttl) (a .left .links) (a .left .best) (s .pre .0) (f .fill .last .0) (a .links .now) (f .fill .ensures)
+
+-- so it has as many cells as before
+same-length : tie.Need-same-length
+same-length c =
+    let s = from-fields (c .before .before .before .before) in
+    omega (arith, ap length (returns c), length-fit (linkMost * linkCells) (s .args .links .now), s .pre .0)
 
 pub store-spec : {M : Type 1} → statement M
 store-spec =
