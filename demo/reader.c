@@ -48,7 +48,7 @@ size_t reader_own(struct reader *r, uint64_t now, const uint8_t *hna, size_t hna
     case BATMAN_NOT_IN_USE: /* an interface that make was not given */
     case BATMAN_TIME_BEFORE: /* the clock went back: take a monotonic one */
     case BATMAN_SHORT_OUTPUT: /* the output is too short for these HNA entries */
-    case BATMAN_WRONG_SIZE: /* more than 292 HNA entries: announce fewer */
+    case BATMAN_WRONG_SIZE: /* more than 292 HNA entries: announce fewer, and no more than 16, or others refuse the packet by 15 */
     case BATMAN_RAGGED_ENTRIES: /* HNA octets that are no whole entries */
     case BATMAN_WRONG_MASK: /* a mask above 32 in the configuration: entry w.place */
     case BATMAN_TTL_TOO_LOW: /* a TTL below 2 in the configuration */
@@ -111,6 +111,7 @@ static bool handle_answer(struct reader *r, struct batman_received a)
     case BATMAN_NEIGHBOURS_FULL: /* 32 neighbours are held: this one stays unidirectional until another falls silent */
     case BATMAN_ORIGINATORS_FULL: /* the table is full: drop it; a daemon sweeps if it has not for long, or makes a larger table */
     case BATMAN_LINKS_FULL: /* eight other links to this originator are held: one more is not needed */
+    case BATMAN_ENTRIES_FULL: /* its originator announces more than 16 networks: log that now and then; they have to be joined under shorter masks there */
         return false;
     case BATMAN_OWN_SENDER: /* our own transmission, heard by ourselves */
     case BATMAN_OWN_BROADCAST: /* no sender has a broadcast address: forged, or a broken network stack */
@@ -163,6 +164,15 @@ struct batman_route reader_route(const struct reader *r, uint32_t originator)
     return a.route;
 }
 
+/* A daemon asks this for each destination behind the mesh when it sets its routes, and then reader_route for the originator. */
+struct batman_located reader_server(const struct reader *r, uint32_t address)
+{
+    struct batman_located l = batman_lookup(r->cells, r->count, address);
+    if (l.number != 0) /* 1: the table is damaged */
+        stop(r, "a lookup", l.number);
+    return l;
+}
+
 const char *reader_meaning(unsigned number)
 {
     switch (number) {
@@ -173,6 +183,7 @@ const char *reader_meaning(unsigned number)
     case BATMAN_NEIGHBOURS_FULL: return "refused: 32 neighbours are held";
     case BATMAN_ORIGINATORS_FULL: return "refused: the table is full";
     case BATMAN_LINKS_FULL: return "refused: 8 other links are held";
+    case BATMAN_ENTRIES_FULL: return "refused: more than 16 networks";
     case BATMAN_OWN_SENDER: return "from our own address";
     case BATMAN_OWN_BROADCAST: return "from a broadcast address";
     case BATMAN_ECHO: return "our own, straight back: the link is bidirectional";

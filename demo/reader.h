@@ -9,7 +9,7 @@
 #include "relay_filter.h"
 
 enum {
-    READER_ANSWERS = 27,                                   /* refusals are 1 to 14, verdicts 20 to 26 */
+    READER_ANSWERS = 27,                                   /* refusals are 1 to 15, verdicts 20 to 26 */
     READER_OCTETS = BATMAN_PACKETS_MOST * BATMAN_READ_SIZE /* of the packets of a burst, each as long as a datagram that is read can be */
 };
 
@@ -69,6 +69,9 @@ uint64_t reader_sweep(struct reader *r, uint64_t now);
 
 /* The best link to an originator; `window` is 0 where there is no route. */
 struct batman_route reader_route(const struct reader *r, uint32_t originator);
+
+/* Which originator serves the network that an address is in; `found` is 0 where nobody announces one. */
+struct batman_located reader_server(const struct reader *r, uint32_t address);
 
 /* What the answer to a packet means, for people. */
 const char *reader_meaning(unsigned number);

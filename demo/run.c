@@ -11,7 +11,11 @@
 
 #include "picture.h"
 
-enum { LINES = 24 }; /* rounds that are printed of a long run */
+enum {
+    LINES = 24,         /* rounds that are printed of a long run */
+    NETWORK_WORDS = 24, /* characters of a network with its mask */
+    HOST = 7            /* of each network, the one that is looked up */
+};
 
 struct dotted {
     char text[16];
@@ -88,6 +92,32 @@ static void print_routes(const struct yard *y, unsigned from)
     }
 }
 
+/* Who serves the network that an address is in, and by which neighbour that reader is reached. */
+static void print_server(const struct reader *r, uint32_t address)
+{
+    struct batman_located l = reader_server(r, address);
+    char network[NETWORK_WORDS];
+    if (!l.found) {
+        printf("%-16s nobody\n", dotted(address).text);
+        return;
+    }
+    snprintf(network, sizeof network, "%s/%" PRIu32, dotted(l.network).text, l.mask);
+    printf("%-16s %-16s ", network, dotted(l.originator).text);
+    printf("%s\n", dotted(reader_route(r, l.originator).neighbour).text);
+}
+
+/* A host of each network is looked up: those behind the other readers, and the one outside. */
+static void print_networks(const struct yard *y, unsigned from)
+{
+    const struct reader *r = &y->reader[from];
+    printf("\nnetworks behind the other readers\n%-16s %-16s %s\n", "network", "served by", "next hop");
+    for (unsigned to = 0; to < y->readers; to++)
+        if (to != from)
+            print_server(r, yard_network(y, to) + HOST);
+    if (from != yard_gate(y))
+        print_server(r, yard_outside() + HOST);
+}
+
 static void draw(const char *file, const struct yard *y)
 {
     if (!picture_draw(file, y)) {
@@ -123,6 +153,7 @@ void run_yard(const struct options *o)
     print_answers(&y);
     print_bursts(&y);
     print_routes(&y, y.readers - 1);
+    print_networks(&y, y.readers - 1);
     if (o->svg != NULL)
         draw(o->svg, &y);
     yard_close(&y);

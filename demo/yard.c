@@ -7,9 +7,12 @@
 
 #include "random.h"
 
-enum { SWEEP_EVERY = 10 }; /* rounds */
-
-static const uint8_t outside[] = {192, 168, 0, 0, 16}; /* what the gate announces: one HNA entry */
+enum {
+    SWEEP_EVERY = 10, /* rounds */
+    NETWORK_MASK = 24,
+    OUTSIDE_MASK = 16,
+    ENTRIES_MOST = 2 /* announced by a reader */
+};
 
 void yard_fail(const char *why)
 {
@@ -25,7 +28,13 @@ uint32_t yard_address(const struct yard *y, unsigned reader)
     return 0x0a000000u + (reader / y->grid.columns + 1) * 256 + reader % y->grid.columns + 1;
 }
 
+/* The reader 10.0.r.c serves 10.r.c.0/24. */
+uint32_t yard_network(const struct yard *y, unsigned reader) { return 0x0a000000u | (yard_address(y, reader) & 0xffff) << 8; }
+
 unsigned yard_gate(const struct yard *y) { return (y->grid.rows - 1) / 2 * y->grid.columns + (y->grid.columns - 1) / 2; }
+
+/* 192.168.0.0/16 */
+uint32_t yard_outside(void) { return 0xc0a80000u; }
 
 static unsigned reader_at(const struct yard *y, uint32_t address)
 {
@@ -115,12 +124,34 @@ static void read_radio(struct yard *y, struct yard_traffic *t, uint64_t time, un
     t->passed_on += out.packets;
 }
 
+/* What a reader announces: HNA entries. */
+struct announcement {
+    uint8_t hna[ENTRIES_MOST * BATMAN_ENTRY_SIZE];
+    size_t length;
+};
+
+static void add_entry(struct announcement *a, uint32_t network, uint8_t mask)
+{
+    const uint8_t entry[BATMAN_ENTRY_SIZE] = {(uint8_t)(network >> 24), (uint8_t)(network >> 16), (uint8_t)(network >> 8), (uint8_t)network, mask};
+    memcpy(a->hna + a->length, entry, sizeof entry);
+    a->length += sizeof entry;
+}
+
+static struct announcement announced_by(const struct yard *y, unsigned reader)
+{
+    struct announcement a = {.length = 0};
+    add_entry(&a, yard_network(y, reader), NETWORK_MASK);
+    if (reader == yard_gate(y))
+        add_entry(&a, yard_outside(), OUTSIDE_MASK);
+    return a;
+}
+
 /* The own packet is written when it goes on the air, and not before: only the last one's echo counts. So what was heard until then is taken first. */
 static void take_turn(struct yard *y, struct yard_traffic *t, struct transmission *turn)
 {
-    size_t announced = turn->sender == yard_gate(y) ? sizeof outside : 0;
+    struct announcement a = announced_by(y, turn->sender);
     read_radio(y, t, turn->time, turn->sender);
-    turn->length = reader_own(&y->reader[turn->sender], turn->time, outside, announced, turn->octets, sizeof turn->octets);
+    turn->length = reader_own(&y->reader[turn->sender], turn->time, a.hna, a.length, turn->octets, sizeof turn->octets);
     t->own++;
 }
 

@@ -67,8 +67,12 @@ void yard_close(struct yard *y);
 
 uint32_t yard_address(const struct yard *y, unsigned reader);
 
-/* The reader in the middle: the gate, which is wired to the network outside and announces it. */
+/* The network behind a reader, with its label printers: every reader announces its own. */
+uint32_t yard_network(const struct yard *y, unsigned reader);
+
+/* The reader in the middle: the gate, which is wired to the network outside and announces that too. */
 unsigned yard_gate(const struct yard *y);
+uint32_t yard_outside(void);
 
 /* The settings of the readers in words, for headings. */
 void yard_describe(const struct yard *y, char words[YARD_WORDS]);

@@ -26,10 +26,11 @@ enum batman_limit {
     BATMAN_INTERFACES = 4,        /* interface rows given to make */
     BATMAN_NEIGHBOURS_MOST = 32,  /* neighbour rows held */
     BATMAN_LINKS_MOST = 8,        /* links held of one originator */
+    BATMAN_ENTRIES_MOST = 16,     /* HNA entries held of one originator; a packet may have up to 292 */
     BATMAN_PACKETS_MOST = 32,     /* packets of a burst */
     BATMAN_CAPACITY_MOST = 256,   /* originators held */
     BATMAN_TABLE_CELLS = 94,      /* cells of a table before its records */
-    BATMAN_RECORD_CELLS = 22,     /* cells of a record, one for each originator of the capacity */
+    BATMAN_RECORD_CELLS = 39,     /* cells of a record, one for each originator of the capacity */
     BATMAN_CELLS_MOST = BATMAN_CELLS(BATMAN_CAPACITY_MOST)
 };
 
@@ -48,7 +49,8 @@ enum batman_refusal {
     BATMAN_LINKS_FULL = 11,       /* more than 8 links of the originator would be held */
     BATMAN_NOT_ALLOWED = 12,      /* a setting, an interface row or the number of cells is not allowed */
     BATMAN_TTL_TOO_LOW = 13,      /* an own packet's TTL is below 2 */
-    BATMAN_WRONG_BURST = 14       /* a burst's lists differ in length, its lengths don't add up to its octets, it has more than 32 packets, or fewer rows than packets */
+    BATMAN_WRONG_BURST = 14,      /* a burst's lists differ in length, its lengths don't add up to its octets, it has more than 32 packets, or fewer rows than packets */
+    BATMAN_ENTRIES_FULL = 15      /* a message with more than 16 HNA entries that would replace its originator's list: it makes the record or has a new number */
 };
 
 /* What a received packet that is not refused gets: the first that applies, in this order. */
@@ -162,13 +164,23 @@ struct batman_listed {
     uint64_t filled; /* how many rows were filled */
 };
 
+/* What a lookup found. `found` alone says whether: where it is 0 the fields behind it are 0, and of an entry each of them may be 0 too, as address 0 is an
+ * ordinary address. */
+struct batman_located {
+    uint64_t number;
+    uint32_t found;      /* 1 where an entry covers the address, else 0 */
+    uint32_t originator; /* whose entry it is: held, so that batman_best answers a route to it */
+    uint32_t network;    /* the entry's network as announced: bits below the mask may be set */
+    uint32_t mask;       /* the entry's mask length, 0 to 32 */
+};
+
 /* How many cells a capacity needs; 0 for one that is not allowed. */
 uint64_t batman_cells_needed(uint64_t capacity);
 
 /* Makes a fresh table in all the cells given, whatever they held: 0, or 12 and nothing is changed. */
 uint64_t batman_make(uint64_t *cells, size_t count, struct batman_settings settings, struct batman_interfaces interfaces);
 
-/* Takes a received packet: `length` octets from `sender`, heard by `interface` at `time` in milliseconds. Refused by 1 to 11.
+/* Takes a received packet: `length` octets from `sender`, heard by `interface` at `time` in milliseconds. Refused by 1 to 11, and then by 15.
  * With 26 the first `length` octets of the output are the copy to be sent on the receiving interface; nothing else is ever written there.
  * `room` is how many octets the output has, and must be at least `length` whatever the verdict: 4 stands before 5, so a stranger's long datagram
  * gets 4 from a shorter output. Read datagrams into BATMAN_READ_SIZE octets, lend an output of as many, and drop what gets 4. */
@@ -189,7 +201,8 @@ struct batman_burst batman_receive_burst(uint64_t *cells, size_t count, const ui
                                          size_t rows);
 
 /* Writes an interface's next own packet at the start of the output, and nothing behind it. Refused by 1 to 5, 7, 8 and 13.
- * `hna` are the octets after the packet's first 12, `hna_length` of them; `room` is how many octets the output has. */
+ * `hna` are the octets after the packet's first 12, `hna_length` of them; `room` is how many octets the output has.
+ * Announce no more than 16 entries: more are written as given, but nodes with this library refuse such a packet by 15. */
 struct batman_written batman_own_packet(uint64_t *cells, size_t count, uint64_t interface, uint64_t time, uint8_t ttl, uint8_t gateway,
                                         uint16_t port, const uint8_t *hna, size_t hna_length, uint8_t *output, size_t room);
 
@@ -203,6 +216,22 @@ struct batman_asked batman_best(const uint64_t *cells, size_t count, uint32_t or
  * a record. `room` is how many rows are lent, 8 are always enough; further rows are left as they are. Refused by 1, and by 4 where there are
  * fewer rows than links; changes no cell. */
 struct batman_listed batman_list(const uint64_t *cells, size_t count, uint32_t originator, struct batman_link_row *rows, size_t room);
+
+/* ---- networks behind the originators
+ *
+ * The table keeps the HNA entries of each originator that it holds: up to 16, in packet order, repeats included. A counted message that makes the record or has a new
+ * number (one outside the window) replaces them by its own, and by none where it has none. Every other message leaves them: one with a number inside the
+ * window, a duplicate, one that isn't counted. A sweep removes them with their record, make removes all.
+ *
+ * A message that would replace them by more than 16 is refused by 15, and nothing of it is taken. To a daemon that means: an originator that announces more is not
+ * taken up; one that is held keeps its older entries, and is swept where nothing else of it is counted for the purge timeout. Nor is such a packet passed on, so that
+ * through this node others don't hear of it either. A node with more than 16 networks has to announce them joined under shorter masks. */
+
+/* Which originator's entry covers an address: of all entries held the one with the longest mask; of equal masks that of the smaller originator address, and of one
+ * originator's the earlier in its list. An entry covers an address that agrees with its network in as many leading bits as the mask says: mask 0 covers every
+ * address, mask 32 one. What this node announces itself is not in its table, and isn't found. Refused by 1 alone; changes nothing. As every call it checks the whole
+ * table each time, and then goes over all entries: ask when routes are set, and not for each datagram that is forwarded. */
+struct batman_located batman_lookup(const uint64_t *cells, size_t count, uint32_t address);
 
 #ifdef __cplusplus
 }

@@ -8,8 +8,9 @@
 
 #include "batman.h"
 
-/* Places in a table that are looked at here, by docs/LAYOUT.md. */
+/* Places in a table and in a record that are looked at here, by docs/LAYOUT.md. */
 enum { VERSION_AT = 0, TIE_AT = 5, TIME_AT = 7, INTERFACES_AT = 10, INTERFACE_CELLS = 5 };
+enum { ENTRIES_HELD_AT = 6, ENTRIES_AT = 23 };
 
 enum { CELLS = BATMAN_CELLS(64) };
 
@@ -262,6 +263,7 @@ static void judged_alike(void)
     uint64_t best = batman_best(small, SMALL, 900).number, not_in_use = best ? best : BATMAN_NOT_IN_USE;
     memcpy(small_kept, small, sizeof small);
     expect("a changed table, best question", best > BATMAN_NOT_WELL_FORMED, 0);
+    expect("a changed table, lookup", batman_lookup(small, SMALL, 900).number, best);
     expect("a changed table, list", batman_list(small, SMALL, 900, rows, BATMAN_LINKS_MOST).number, best);
     expect("a changed table, receive", batman_receive(small, SMALL, packet, sizeof packet, 7, UINT64_MAX, 9, output, sizeof output).number, not_in_use);
     expect("a changed table, own packet", batman_own_packet(small, SMALL, UINT64_MAX, 9, 50, 0, 0, NULL, 0, output, sizeof output).number, not_in_use);
@@ -724,11 +726,372 @@ static void bursts(void)
     full_tables();
 }
 
+/* ---- networks: the HNA entries of the originators 900 and 901, in a window of 8, heard from the neighbours 1 to 9 */
+
+enum { TOO_MANY = BATMAN_ENTRIES_MOST + 1, PACKET_ENTRIES_MOST = 292, NETWORKS_WINDOW = 8, NEIGHBOURS = 9, HEARD_FROM = 7 };
+
+static uint32_t dotted(uint8_t a, uint8_t b, uint8_t c, uint8_t d) { return (uint32_t)a << 24 | (uint32_t)b << 16 | (uint32_t)c << 8 | d; }
+
+/* A message with entries behind it. */
+struct announcement {
+    uint8_t octets[BATMAN_PACKET_MOST];
+    size_t length;
+};
+
+static struct announcement announce(uint32_t originator, uint16_t number)
+{
+    struct announcement a = {.length = BATMAN_HEADER_SIZE};
+    struct message m = message(originator, number, 0, 50);
+    memcpy(a.octets, m.octets, sizeof m.octets);
+    return a;
+}
+
+static struct announcement with(struct announcement a, uint32_t network, uint8_t mask)
+{
+    const uint8_t entry[BATMAN_ENTRY_SIZE] = {(uint8_t)(network >> 24), (uint8_t)(network >> 16), (uint8_t)(network >> 8), (uint8_t)network, mask};
+    memcpy(a.octets + a.length, entry, sizeof entry);
+    a.length += sizeof entry;
+    return a;
+}
+
+/* So many entries more: 10.9.0.0/24, 10.9.1.0/24 and on; from the 257th on 10.10.0.0/24 .. */
+static struct announcement with_many(struct announcement a, unsigned entries)
+{
+    for (unsigned i = 0; i < entries; i++)
+        a = with(a, dotted(10, 9, 0, 0) + 256 * i, 24);
+    return a;
+}
+
+/* The message of this originator and number, with so many entries. */
+static struct announcement many(uint32_t originator, uint16_t number, unsigned entries) { return with_many(announce(originator, number), entries); }
+
+static struct batman_received hear_entries(uint32_t sender, struct announcement a)
+{
+    return batman_receive(small, SMALL, a.octets, a.length, sender, 0, small[TIME_AT], output, sizeof output);
+}
+
+/* The message is counted, and passed on as the first of its originator, or as one with a new number, is. */
+static void take_entries(struct announcement a) { expect("a message with entries", hear_entries(HEARD_FROM, a).number, BATMAN_PASSED_ON); }
+
+static void begin_networks(void)
+{
+    struct batman_settings s = defaults;
+    s.window = NETWORKS_WINDOW;
+    begin(s);
+    echo(NEIGHBOURS);
+}
+
+/* Asks, and sees that asking changes nothing. */
+static struct batman_located look_up(uint32_t address)
+{
+    memcpy(small_kept, small, sizeof small);
+    struct batman_located l = batman_lookup(small, SMALL, address);
+    expect("a lookup changed a cell", memcmp(small, small_kept, sizeof small) != 0, 0);
+    return l;
+}
+
+static void found(const char *what, uint32_t address, uint32_t originator, uint32_t network, uint32_t mask)
+{
+    struct batman_located l = look_up(address);
+    expect(what, l.number, 0);
+    expect(what, l.found, 1);
+    expect(what, l.originator, originator);
+    expect(what, l.network, network);
+    expect(what, l.mask, mask);
+}
+
+static void all_zero_but_number(const char *what, struct batman_located l, uint64_t number)
+{
+    expect(what, seen(l.number), number);
+    expect(what, l.found, 0);
+    expect(what, l.originator, 0);
+    expect(what, l.network, 0);
+    expect(what, l.mask, 0);
+}
+
+static void not_found(const char *what, uint32_t address) { all_zero_but_number(what, look_up(address), 0); }
+
+static void lookups_refused(void)
+{
+    begin_networks();
+    take_entries(with(announce(900, 5), 0, 0));
+    found("a table to damage", 1, 900, 0, 0);
+    all_zero_but_number("a lookup in no cells", batman_lookup(NULL, 0, 1), BATMAN_NOT_WELL_FORMED);
+    all_zero_but_number("a lookup in a cell too few", batman_lookup(small, SMALL - 1, 1), BATMAN_NOT_WELL_FORMED);
+    small[VERSION_AT] = 256;
+    all_zero_but_number("a lookup in a table not well-formed", look_up(1), BATMAN_NOT_WELL_FORMED);
+}
+
+/* The longest mask, wherever it stands in the list; none; and the first and last address of a network. */
+static void longest_mask(void)
+{
+    begin_networks();
+    not_found("no originator", dotted(10, 1, 2, 3));
+    take_entries(announce(900, 5));
+    not_found("no entries", dotted(10, 1, 2, 3));
+    take_entries(with(with(with(with(announce(901, 5), dotted(10, 1, 0, 0), 16), dotted(10, 1, 2, 0), 24), dotted(10, 0, 0, 0), 8), dotted(10, 1, 2, 3), 32));
+    found("mask 32", dotted(10, 1, 2, 3), 901, dotted(10, 1, 2, 3), 32);
+    found("beside it", dotted(10, 1, 2, 2), 901, dotted(10, 1, 2, 0), 24);
+    found("the first address of mask 24", dotted(10, 1, 2, 0), 901, dotted(10, 1, 2, 0), 24);
+    found("the last address of mask 24", dotted(10, 1, 2, 255), 901, dotted(10, 1, 2, 0), 24);
+    found("behind it", dotted(10, 1, 3, 0), 901, dotted(10, 1, 0, 0), 16);
+    found("before it", dotted(10, 1, 1, 255), 901, dotted(10, 1, 0, 0), 16);
+    found("mask 8", dotted(10, 2, 2, 3), 901, dotted(10, 0, 0, 0), 8);
+    not_found("the address behind all", dotted(11, 0, 0, 0));
+    not_found("the address before all", dotted(9, 255, 255, 255));
+}
+
+/* 901 is heard first. Of equal masks 900's is found, of a longer one whosever it is; within a list the earlier, which bits below the mask tell apart. */
+static void equal_masks(void)
+{
+    begin_networks();
+    take_entries(with(with(announce(901, 5), dotted(10, 1, 2, 1), 24), dotted(10, 1, 2, 128), 25));
+    found("901 alone", dotted(10, 1, 2, 9), 901, dotted(10, 1, 2, 1), 24);
+    take_entries(with(with(with(announce(900, 5), dotted(10, 1, 2, 9), 23), dotted(10, 1, 2, 8), 24), dotted(10, 1, 2, 7), 24));
+    found("equal masks", dotted(10, 1, 2, 9), 900, dotted(10, 1, 2, 8), 24);
+    found("a longer mask of the larger originator", dotted(10, 1, 2, 129), 901, dotted(10, 1, 2, 128), 25);
+    found("a shorter mask alone", dotted(10, 1, 3, 9), 900, dotted(10, 1, 2, 9), 23);
+}
+
+/* Mask 0 covers every address; bits below a mask don't matter, and come back as announced. */
+static void any_address(void)
+{
+    begin_networks();
+    take_entries(with(with(announce(900, 5), dotted(5, 6, 7, 8), 0), dotted(10, 1, 0, 7), 16));
+    found("the least address", 0, 900, dotted(5, 6, 7, 8), 0);
+    found("the largest address", UINT32_MAX, 900, dotted(5, 6, 7, 8), 0);
+    found("bits below the mask, all others", dotted(10, 1, 255, 248), 900, dotted(10, 1, 0, 7), 16);
+    found("bits below the mask, the highest bit above them other", dotted(138, 1, 0, 7), 900, dotted(5, 6, 7, 8), 0);
+    found("bits below the mask, the lowest bit above them other", dotted(10, 0, 0, 7), 900, dotted(5, 6, 7, 8), 0);
+    take_entries(with(announce(900, 6), UINT32_MAX, 1));
+    found("mask 1", (uint32_t)1 << 31, 900, UINT32_MAX, 1);
+    not_found("mask 1, the other half", INT32_MAX);
+}
+
+/* Every field of what is found may be 0: only `found` tells it from nothing. */
+static void address_zero(void)
+{
+    begin_networks();
+    take_entries(with(announce(900, 5), 0, 32));
+    found("address 0", 0, 900, 0, 32);
+    not_found("address 1", 1);
+    take_entries(with(announce(0, 5), 0, 0));
+    found("address 1 by originator 0", 1, 0, 0, 0);
+    found("address 0 by the longer mask", 0, 900, 0, 32);
+}
+
+/* Two addresses, each announced with mask 32: 10.1.1.1 and 10.2.2.2. */
+enum { OLD = 0x0a010101, NEW = 0x0a020202 };
+
+static void begin_with_old(void)
+{
+    begin_networks();
+    take_entries(with(announce(900, 10), OLD, 32));
+}
+
+/* Answered by this number, and the list has this address and not the other. */
+static void leaves(const char *what, uint32_t sender, struct announcement a, uint64_t number, uint32_t held, uint32_t other)
+{
+    expect(what, hear_entries(sender, a).number, number);
+    found(what, held, 900, held, 32);
+    not_found(what, other);
+}
+
+/* A number outside the window replaces the list, above and below, also with no entries, and also where the TTL doesn't let the message go on. */
+static void lists_replaced(void)
+{
+    struct announcement low = with(announce(900, 14), OLD, 32);
+    low.octets[2] = 1;
+    begin_with_old();
+    leaves("the next number", HEARD_FROM, with(announce(900, 11), NEW, 32), BATMAN_PASSED_ON, NEW, OLD);
+    leaves("the first number below the window", HEARD_FROM, with(announce(900, 11 - NETWORKS_WINDOW), OLD, 32), BATMAN_PASSED_ON, OLD, NEW);
+    leaves("a new number by a link that doesn't become best", 2, with(announce(900, 4), NEW, 32), BATMAN_KEPT, NEW, OLD);
+    leaves("a new number with TTL 1", HEARD_FROM, low, BATMAN_KEPT, OLD, NEW);
+    take_entries(announce(900, 15));
+    not_found("a new number without entries", OLD);
+}
+
+/* A number inside the window, a duplicate and what is not counted leave the list; with more than 16 entries too, since nothing is to be kept of them. */
+static void lists_left(unsigned more)
+{
+    struct announcement inside = with_many(with(announce(900, 11 - NETWORKS_WINDOW), NEW, 32), more), same = with_many(with(announce(900, 10), NEW, 32), more);
+    struct announcement later = with_many(with(announce(900, 11), NEW, 32), more), marked = later, back = with_many(with(announce(US, 65535), NEW, 32), more);
+    marked.octets[1] = 128;
+    back.octets[1] = 64;
+    begin_with_old();
+    leaves("a duplicate of the best link", HEARD_FROM, same, BATMAN_PASSED_ON, OLD, NEW);
+    leaves("the last number of the window", HEARD_FROM, inside, BATMAN_PASSED_ON, OLD, NEW);
+    leaves("that number again", HEARD_FROM, inside, BATMAN_PASSED_ON, OLD, NEW);
+    leaves("the current number by another link", 1, same, BATMAN_KEPT, OLD, NEW);
+    leaves("a new number by a link without a row", NEIGHBOURS + 1, later, BATMAN_KEPT, OLD, NEW);
+    leaves("a new number with U set", HEARD_FROM, marked, BATMAN_UNIDIRECTIONAL, OLD, NEW);
+    leaves("a new number from an own address", US_TOO, later, BATMAN_OWN_SENDER, OLD, NEW);
+    leaves("a new number from a broadcast address", BROADCAST, later, BATMAN_OWN_BROADCAST, OLD, NEW);
+    leaves("an echo", HEARD_FROM, back, BATMAN_ECHO, OLD, NEW);
+    back.octets[1] = 0;
+    leaves("our own packet by another way", HEARD_FROM, back, BATMAN_OWN_ORIGINATOR, OLD, NEW);
+}
+
+/* A neighbour's own message before its echo is not counted: it is passed on, however many entries it has. */
+static void passed_on_uncounted(void)
+{
+    struct announcement a = many(77, 1, PACKET_ENTRIES_MOST);
+    begin_networks();
+    expect("292 entries, not counted", hear_entries(77, a).number, BATMAN_PASSED_ON);
+    expect("the entries of its copy differ", memcmp(output + BATMAN_HEADER_SIZE, a.octets + BATMAN_HEADER_SIZE, a.length - BATMAN_HEADER_SIZE) != 0, 0);
+    not_found("its entries", dotted(10, 9, 0, 1));
+}
+
+/* 16 entries are held, each of them, in packet order; fewer leave zeros behind them. */
+static void most_entries(void)
+{
+    const uint64_t *record = small + BATMAN_TABLE_CELLS;
+    begin_networks();
+    take_entries(many(900, 5, BATMAN_ENTRIES_MOST));
+    expect("entries held", record[ENTRIES_HELD_AT], BATMAN_ENTRIES_MOST);
+    for (uint32_t i = 0; i < BATMAN_ENTRIES_MOST; i++)
+        found("one of 16", dotted(10, 9, (uint8_t)i, 1), 900, dotted(10, 9, (uint8_t)i, 0), 24);
+    take_entries(with(with(announce(900, 6), NEW, 32), NEW, 32));
+    expect("a repeated entry is held twice", record[ENTRIES_HELD_AT], 2);
+    expect("the first of them", record[ENTRIES_AT], (uint64_t)NEW << 8 | 32);
+    expect("the second of them", record[ENTRIES_AT + 1], (uint64_t)NEW << 8 | 32);
+    for (size_t i = 2; i < BATMAN_ENTRIES_MOST; i++)
+        expect("a cell behind them", record[ENTRIES_AT + i], 0);
+}
+
+/* Refused with nothing changed, at a later time: that is not taken over either. */
+static void entries_refused(const char *what, struct announcement a, uint64_t number, uint64_t place)
+{
+    turned_away(what, a.octets, a.length, 0, small[TIME_AT] + 1, sizeof output, number, place);
+}
+
+static void too_many_entries(void)
+{
+    begin_networks();
+    entries_refused("17 entries in a first message", many(900, 5, TOO_MANY), BATMAN_ENTRIES_FULL, 0);
+    expect("no record of it", batman_best(small, SMALL, 900).route.window, 0);
+    take_entries(many(900, 5, BATMAN_ENTRIES_MOST));
+    entries_refused("17 entries in a new number", many(900, 6, TOO_MANY), BATMAN_ENTRIES_FULL, 0);
+    entries_refused("292 entries in a new number", many(900, 6, PACKET_ENTRIES_MOST), BATMAN_ENTRIES_FULL, 0);
+    entries_refused("17 entries in a number below the window", many(900, 65530, TOO_MANY), BATMAN_ENTRIES_FULL, 0);
+    found("the list is the one before", dotted(10, 9, 15, 1), 900, dotted(10, 9, 15, 0), 24);
+}
+
+/* What stands before 15: a mask (8), the capacity (10) and a ninth link (11), of messages with 17 entries. */
+static void earlier_refusals(void)
+{
+    begin_networks();
+    for (uint32_t link = 1; link <= NEIGHBOURS; link++)
+        if (link != HEARD_FROM)
+            hear_entries(link, many(900, 5, 1));
+    entries_refused("a ninth link and 17 entries in a new number", many(900, 6, TOO_MANY), BATMAN_LINKS_FULL, 0);
+    entries_refused("a window that drops eight links, and 17 entries", many(900, 100, TOO_MANY), BATMAN_ENTRIES_FULL, 0);
+    entries_refused("a mask of 33 and 17 entries", with(many(901, 5, TOO_MANY), 0, 33), BATMAN_WRONG_MASK, TOO_MANY);
+    take_entries(many(901, 5, BATMAN_ENTRIES_MOST));
+    entries_refused("a third originator and 17 entries", many(902, 5, TOO_MANY), BATMAN_ORIGINATORS_FULL, 0);
+}
+
+/* 900 is heard at the table's first time and 901 later: a sweep takes the entries of the one alone, and then of both. A make empties the table too. */
+static void entries_removed(void)
+{
+    begin_networks();
+    take_entries(with(announce(900, 5), OLD, 32));
+    expect("a sweep before the timeout", batman_sweep(small, SMALL, 9 + defaults.purge).removed, 0);
+    take_entries(with(announce(901, 5), NEW, 32));
+    expect("the sweep of one", batman_sweep(small, SMALL, 10 + defaults.purge).removed, 1);
+    not_found("an entry of the swept one", OLD);
+    found("an entry of the other", NEW, 901, NEW, 32);
+    take_entries(announce(900, 6));
+    not_found("the swept one again, without entries", OLD);
+    expect("the sweep of both", batman_sweep(small, SMALL, 11 + 2 * defaults.purge).removed, 2);
+    not_found("an entry after both are swept", NEW);
+    begin_with_old();
+    begin_networks();
+    not_found("an entry after a make", OLD);
+}
+
+/* What we announce ourselves is in our packet, as many entries as it can have, and not in our table. */
+static void own_entries(void)
+{
+    struct announcement a = many(US, 0, PACKET_ENTRIES_MOST);
+    size_t hna = a.length - BATMAN_HEADER_SIZE;
+    begin_networks();
+    struct batman_written w = batman_own_packet(small, SMALL, 0, 9, 50, 0, 0, a.octets + BATMAN_HEADER_SIZE, hna, output, sizeof output);
+    expect("an own packet with 292 entries", w.number, 0);
+    expect("its length", w.length, BATMAN_PACKET_MOST);
+    expect("its entries differ", memcmp(output + BATMAN_HEADER_SIZE, a.octets + BATMAN_HEADER_SIZE, hna) != 0, 0);
+    not_found("one of them", dotted(10, 9, 0, 1));
+}
+
+/* A burst with 17 entries among its packets: that one is refused and the next is taken. */
+static void too_many_in_a_burst(void)
+{
+    static const uint64_t numbers[] = {BATMAN_PASSED_ON, BATMAN_ENTRIES_FULL, BATMAN_PASSED_ON};
+    struct burst b = no_packets();
+    struct announcement first = many(900, 5, 1), second = many(900, 6, TOO_MANY), third = many(900, 6, BATMAN_ENTRIES_MOST);
+    begin_networks();
+    add_packet(&b, HEARD_FROM, 0, first.octets, first.length);
+    add_packet(&b, HEARD_FROM, 0, second.octets, second.length);
+    add_packet(&b, HEARD_FROM, 0, third.octets, third.length);
+    expect("octets written of a burst with 17 entries", answered("a burst with 17 entries", &b, numbers), first.length + third.length);
+    found("the last packet's last entry", dotted(10, 9, 15, 1), 900, dotted(10, 9, 15, 0), 24);
+}
+
+/* A cell of the first record as it is poked, and whether the table is then well-formed. */
+static void poked(const char *what, size_t cell, uint64_t value, uint64_t number)
+{
+    uint64_t *at = small + BATMAN_TABLE_CELLS + cell, was = *at;
+    *at = value;
+    expect(what, look_up(0).number, number);
+    judged_alike();
+    *at = was;
+}
+
+static void entries_poked(void)
+{
+    const uint64_t network = (uint64_t)OLD << 8;
+    begin_networks();
+    take_entries(many(900, 5, BATMAN_ENTRIES_MOST));
+    poked("17 entries held", ENTRIES_HELD_AT, TOO_MANY, BATMAN_NOT_WELL_FORMED);
+    poked("15 entries held, and a cell behind them", ENTRIES_HELD_AT, BATMAN_ENTRIES_MOST - 1, BATMAN_NOT_WELL_FORMED);
+    poked("mask 32 in the last entry", ENTRIES_AT + BATMAN_ENTRIES_MOST - 1, network | 32, 0);
+    poked("mask 33 in the last entry", ENTRIES_AT + BATMAN_ENTRIES_MOST - 1, network | 33, BATMAN_NOT_WELL_FORMED);
+    poked("mask 255 in the first entry", ENTRIES_AT, network | 255, BATMAN_NOT_WELL_FORMED);
+    poked("the largest network", ENTRIES_AT, (uint64_t)UINT32_MAX << 8 | 32, 0);
+    poked("an entry of 2^40", ENTRIES_AT, (uint64_t)1 << 40, BATMAN_NOT_WELL_FORMED);
+    take_entries(many(900, 6, 2));
+    poked("one of three entries is zero", ENTRIES_HELD_AT, 3, 0);
+    poked("a cell behind the entries", ENTRIES_AT + 2, 1, BATMAN_NOT_WELL_FORMED);
+    poked("the last cell of a record", ENTRIES_AT + BATMAN_ENTRIES_MOST - 1, 1, BATMAN_NOT_WELL_FORMED);
+    take_entries(many(901, 5, BATMAN_ENTRIES_MOST));
+    changed_tables();
+}
+
+static void networks(void)
+{
+    lookups_refused();
+    longest_mask();
+    equal_masks();
+    any_address();
+    address_zero();
+    lists_replaced();
+    lists_left(0);
+    lists_left(BATMAN_ENTRIES_MOST);
+    passed_on_uncounted();
+    most_entries();
+    too_many_entries();
+    earlier_refusals();
+    entries_removed();
+    own_entries();
+    too_many_in_a_burst();
+    entries_poked();
+}
+
 /* Every refusal and every verdict. */
 static void all_came_up(void)
 {
     for (int n = BATMAN_NOT_WELL_FORMED; n <= BATMAN_PASSED_ON; n++)
-        if (n <= BATMAN_WRONG_BURST || n >= BATMAN_OWN_SENDER)
+        if (n <= BATMAN_ENTRIES_FULL || n >= BATMAN_OWN_SENDER)
             expect("a number that never came up", (uint64_t)(came_up[n] ? 0 : n), 0);
 }
 
@@ -742,6 +1105,7 @@ int main(void)
     verdicts();
     ties();
     bursts();
+    networks();
     all_came_up();
     printf("calls: %lu answers and cells compared; %lu differ\n", compared, differing);
     return differing != 0;

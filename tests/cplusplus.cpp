@@ -36,6 +36,7 @@ int main()
     right = right && burst.number == 0 && burst.written == 0 && answers[0].number == BATMAN_ECHO;
     right = right && batman_best(cells.data(), cells.size(), 5).number == 0;
     right = right && batman_list(cells.data(), cells.size(), 5, rows.data(), rows.size()).filled == 0;
+    right = right && batman_lookup(cells.data(), cells.size(), 5).found == 0;
     right = right && batman_sweep(cells.data(), cells.size(), 3).removed == 0;
     std::printf("C++: every function called; %s\n", right ? "all as they should" : "one answered wrongly");
     return right ? 0 : 1;

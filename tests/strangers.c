@@ -15,7 +15,7 @@
 #include "batman.h"
 
 /* Places in a table and in a record, by docs/LAYOUT.md; bits of a flags octet, by RULES 3.3. */
-enum { TIME_AT = 7, LINKS_HELD_AT = 4, LINKS_AT = 6, LINK_CELLS = 2, CELL_BITS = 64 };
+enum { TIME_AT = 7, LINKS_HELD_AT = 4, ENTRIES_HELD_AT = 6, LINKS_AT = 7, LINK_CELLS = 2, ENTRIES_AT = 23, CELL_BITS = 64 };
 enum { U = 128, D = 64, FLAGS_AT = 1, TTL_AT = 2 };
 
 /* Milliseconds between two own packets (draft 8), the TTL of every message here, and a number far outside every window. */
@@ -24,6 +24,9 @@ enum { INTERVAL = 1000, TTL = 50, FAR = 30000 };
 /* We have up to two interfaces; THEY are another node of this kind. NEAR and NEAR_TOO are honest neighbours, ORIGINATOR is an honest node further off.
  * STRANGER is the address of one who sends what he likes; addresses from MADE_UP on belong to nobody. */
 enum { US = 0x0a010001, US_TOO, THEY, NEAR, NEAR_TOO, ORIGINATOR, STRANGER, BROADCAST = 0x0a01ffff, MADE_UP = 0x0a020000 };
+
+/* Networks behind the nodes, from 100.64.0.0/24 on, and one of each kind of host in them. */
+enum { NETWORKS = 0x64400000, PRINTER = 7, OTHER_HOST = 8 };
 
 static const struct batman_settings defaults = BATMAN_SETTINGS_DEFAULT;
 
@@ -90,20 +93,43 @@ static struct batman_received take(struct node *n, const uint8_t *packet, size_t
     return batman_receive(n->cells, n->count, packet, length, sender, 0, n->now, n->output, sizeof n->output);
 }
 
+static void write_address(uint8_t *octets, uint32_t address)
+{
+    for (int i = 0; i < 4; i++)
+        octets[i] = (uint8_t)(address >> 8 * (3 - i));
+}
+
 static void write_message(uint8_t *packet, uint32_t originator, uint16_t number, uint8_t flags)
 {
     const uint8_t first[] = {(uint8_t)defaults.version, flags, TTL, 0, (uint8_t)(number >> 8), (uint8_t)number, 0, 0};
     memcpy(packet, first, sizeof first);
-    for (size_t i = sizeof first; i < BATMAN_HEADER_SIZE; i++)
-        packet[i] = (uint8_t)(originator >> 8 * (BATMAN_HEADER_SIZE - 1 - i));
+    write_address(packet + sizeof first, originator);
+}
+
+/* An HNA entry; and entries of a message, at most a few more than are held. */
+struct entry {
+    uint32_t network;
+    uint8_t mask;
+};
+
+enum { SOME_ENTRIES = BATMAN_ENTRIES_MOST + 4 };
+
+/* A message with these entries, its flags 0. */
+static struct batman_received hear_entries(struct node *n, uint32_t sender, uint32_t originator, uint16_t number, const struct entry *entries, size_t count)
+{
+    uint8_t packet[BATMAN_HEADER_SIZE + BATMAN_ENTRY_SIZE * SOME_ENTRIES], *octets = packet + BATMAN_HEADER_SIZE;
+    write_message(packet, originator, number, 0);
+    for (size_t i = 0; i < count; i++, octets += BATMAN_ENTRY_SIZE) {
+        write_address(octets, entries[i].network);
+        octets[BATMAN_ENTRY_SIZE - 1] = entries[i].mask;
+    }
+    return take(n, packet, (size_t)(octets - packet), sender);
 }
 
 /* A message of 12 octets, its flags 0. */
 static struct batman_received hear(struct node *n, uint32_t sender, uint32_t originator, uint16_t number)
 {
-    uint8_t packet[BATMAN_HEADER_SIZE];
-    write_message(packet, originator, number, 0);
-    return take(n, packet, sizeof packet, sender);
+    return hear_entries(n, sender, originator, number, NULL, 0);
 }
 
 /* The node's last packet comes back from this sender: whoever heard it can write that, under any address. */
@@ -137,6 +163,19 @@ static uint32_t count_of(const struct node *n, uint32_t originator, uint32_t nei
         if (rows[i].neighbour == neighbour)
             return rows[i].count;
     return 0;
+}
+
+/* A lookup of an address finds an entry of this originator. */
+static void must_serve(const char *what, const struct node *n, uint32_t address, uint32_t originator)
+{
+    struct batman_located l = batman_lookup(n->cells, n->count, address);
+    must(what, l.found, 1);
+    must(what, l.originator, originator);
+}
+
+static void must_serve_none(const char *what, const struct node *n, uint32_t address)
+{
+    must(what, batman_lookup(n->cells, n->count, address).found, 0);
 }
 
 static void must_lead(const char *what, const struct node *n, uint32_t originator, uint32_t neighbour, uint32_t count)
@@ -237,13 +276,18 @@ static uint64_t state;
 
 static uint64_t below(uint64_t n) { return random_below(&state, n); }
 
-/* A table with three neighbours' rows and some originators heard by them. */
+/* The n-th network that somebody announces. */
+static struct entry network(uint32_t n) { return (struct entry){NETWORKS + 256 * n, 24}; }
+
+/* A table with three neighbours' rows and some originators heard by them, each with a network. */
 static void begin_with_records(void)
 {
     begin(&us, US, defaults.capacity, 2);
     echoes(&us, NEAR, HONEST);
-    for (uint32_t i = 0; i < 10 * SOME_ORIGINATORS; i++)
-        hear(&us, (uint32_t)(NEAR + below(HONEST)), MADE_UP + i % SOME_ORIGINATORS, (uint16_t)(FAR + i % 5));
+    for (uint32_t i = 0; i < 10 * SOME_ORIGINATORS; i++) {
+        struct entry e = network(i % SOME_ORIGINATORS);
+        hear_entries(&us, (uint32_t)(NEAR + below(HONEST)), MADE_UP + i % SOME_ORIGINATORS, (uint16_t)(FAR + i % 5), &e, 1);
+    }
     remember(&us);
 }
 
@@ -251,7 +295,7 @@ static void begin_with_records(void)
 static size_t random_packet(uint8_t *packet, uint32_t *sender)
 {
     uint32_t originators[] = {US, US_TOO, (uint32_t)(MADE_UP + below(SOME_ORIGINATORS)), (uint32_t)random_next(&state) | 1u << 31};
-    size_t length = below(BATMAN_READ_SIZE + 1), entries = below(4);
+    size_t length = below(BATMAN_READ_SIZE + 1), entries = below(SOME_ENTRIES + 1);
     for (size_t i = 0; i < length; i++)
         packet[i] = (uint8_t)random_next(&state);
     *sender = (uint32_t)random_next(&state) | 1u << 31; /* none of 10.0.0.0/8 */
@@ -446,7 +490,7 @@ static void far_originator_as_neighbour(void)
     claim("forged sender: an echo and a message under the address of a distant originator: the route leads to that address as if it were a neighbour");
 }
 
-static void unread_fields_are_passed_on(void)
+static void forged_fields_are_passed_on(void)
 {
     /* gateway flags 255, gateway port 4305, HNA entries 0.0.0.0/0 and 10.1.0.4/32 */
     uint8_t packet[] = {4, 0, TTL, 255, 0, 1, 16, 209, 10, 2, 0, 0, 0, 0, 0, 0, 0, 10, 1, 0, 4, 32};
@@ -455,7 +499,85 @@ static void unread_fields_are_passed_on(void)
     must("a packet with gateway fields and HNA entries", take(&us, packet, sizeof packet, STRANGER).number, BATMAN_PASSED_ON);
     packet[TTL_AT]--;
     must("its copy has its octets, TTL one less", memcmp(us.output, packet, sizeof packet) == 0, true);
-    claim("forged fields: gateway flags, gateway port and HNA entries (0.0.0.0/0 and a neighbour's address) are passed on as they came");
+    must_serve("the neighbour's address", &us, NEAR, MADE_UP);
+    must_serve("any other address", &us, ORIGINATOR, MADE_UP);
+    claim("forged fields: gateway flags, gateway port and HNA entries (0.0.0.0/0 and a neighbour's address) are passed on as they came, and a lookup finds these entries");
+}
+
+/* ---- networks */
+
+/* An honest originator with number 1 and one network; and the stranger has an echo. */
+static void begin_with_network(void)
+{
+    struct entry e = network(0);
+    begin(&us, US, defaults.capacity, 1);
+    echoes(&us, NEAR, 1);
+    echoes(&us, STRANGER, 1);
+    must("an honest message", hear_entries(&us, NEAR, ORIGINATOR, 1, &e, 1).number, BATMAN_PASSED_ON);
+    must_serve("its network", &us, e.network + PRINTER, ORIGINATOR);
+    remember(&us);
+}
+
+static void longer_mask_takes_an_address(void)
+{
+    struct entry e = {NETWORKS + PRINTER, 32};
+    begin_with_network();
+    hear_entries(&us, STRANGER, MADE_UP, 1, &e, 1);
+    must_serve("the address that is announced again", &us, NETWORKS + PRINTER, MADE_UP);
+    must_serve("another of that network", &us, NETWORKS + OTHER_HOST, ORIGINATOR);
+    claim("networks: a stranger with an echo takes one address of an announced network by one message with a longer mask; the others stay");
+}
+
+static void smaller_address_takes_a_network(void)
+{
+    struct entry e = network(0);
+    begin_with_network();
+    hear_entries(&us, STRANGER, MADE_UP, 1, &e, 1);
+    must_serve("the network announced under a larger address too", &us, NETWORKS + PRINTER, ORIGINATOR);
+    hear_entries(&us, STRANGER, 1, 1, &e, 1);
+    must_serve("the network announced under a smaller address too", &us, NETWORKS + PRINTER, 1);
+    claim("networks: with the same mask he takes the whole network under an invented originator address that is smaller, and nothing under a larger one");
+}
+
+static void forged_number_replaces_a_list(void)
+{
+    struct entry e = network(0), his = network(1);
+    begin_with_network();
+    hear_entries(&us, STRANGER, ORIGINATOR, FAR, &his, 1);
+    must_serve_none("the network after a forged number", &us, e.network);
+    must_serve("the forged network", &us, his.network, ORIGINATOR);
+    hear_entries(&us, NEAR, ORIGINATOR, 2, &e, 1);
+    must_serve("the network after the next true message", &us, e.network, ORIGINATOR);
+    must_serve_none("the forged network then", &us, his.network);
+    claim("networks: a forged message of an originator with a number outside the window replaces its list, until its next message does the same");
+}
+
+static void first_of_a_number_decides(void)
+{
+    struct entry e = network(0), his = network(1);
+    begin_with_network();
+    hear_entries(&us, STRANGER, ORIGINATOR, 2, &his, 1);
+    must("the true message of that number", hear_entries(&us, NEAR, ORIGINATOR, 2, &e, 1).number, BATMAN_PASSED_ON);
+    must_serve("the forged network until the next number", &us, his.network, ORIGINATOR);
+    must_serve_none("the true network until then", &us, e.network);
+    hear_entries(&us, NEAR, ORIGINATOR, 3, &e, 1);
+    must_serve("the true network after it", &us, e.network, ORIGINATOR);
+    claim("networks: of one number the message counted first has the list: who sends it before the originator does sets that list until the next number");
+}
+
+/* The stranger sends the next number, in the originator's name or in that of an invented one. */
+static void too_many_entries(void)
+{
+    struct entry entries[SOME_ENTRIES];
+    for (uint32_t i = 0; i < SOME_ENTRIES; i++)
+        entries[i] = network(i + 1);
+    begin_with_network();
+    must("17 entries of the originator", hear_entries(&us, STRANGER, ORIGINATOR, 2, entries, BATMAN_ENTRIES_MOST + 1).number, BATMAN_ENTRIES_FULL);
+    must("17 entries of an invented originator", hear_entries(&us, STRANGER, MADE_UP, 1, entries, BATMAN_ENTRIES_MOST + 1).number, BATMAN_ENTRIES_FULL);
+    must("no cell changed by them", memcmp(us.cells, us.before, sizeof us.cells) == 0, true);
+    hear_entries(&us, STRANGER, MADE_UP, 1, entries, BATMAN_ENTRIES_MOST);
+    must_serve("the last of 16 networks", &us, entries[BATMAN_ENTRIES_MOST - 1].network, MADE_UP);
+    claim("networks: a message that would bring more than %d entries is refused by 15 and changes no cell; %d fill a list", BATMAN_ENTRIES_MOST, BATMAN_ENTRIES_MOST);
 }
 
 /* ---- rows and links */
@@ -531,9 +653,12 @@ static void flip(uint64_t *first, size_t cells, struct share *s)
         }
 }
 
-/* As many originators as the capacity, each heard through 1 to 8 neighbours that lose some of its messages, at times of its own. */
+/* As many originators as the capacity, each heard through 1 to 8 neighbours that lose some of its messages, at times of its own, with 0 to 16 networks. */
 static void begin_full(void)
 {
+    struct entry entries[BATMAN_ENTRIES_MOST];
+    for (uint32_t i = 0; i < BATMAN_ENTRIES_MOST; i++)
+        entries[i] = network(i);
     begin(&us, US, defaults.capacity, 1);
     echoes(&us, NEAR, BATMAN_LINKS_MOST);
     for (uint32_t i = 0; i < defaults.capacity; i++)
@@ -541,7 +666,7 @@ static void begin_full(void)
             us.now += below(10);
             for (uint32_t link = 0; link <= i % BATMAN_LINKS_MOST; link++)
                 if (number == 0 || below(4) != 0)
-                    hear(&us, NEAR + link, (uint32_t)(MADE_UP + i), number);
+                    hear_entries(&us, NEAR + link, (uint32_t)(MADE_UP + i), number, entries, i % (BATMAN_ENTRIES_MOST + 1));
         }
     must("a table to damage", batman_best(us.cells, us.count, ORIGINATOR).number, 0);
 }
@@ -556,6 +681,7 @@ static void flipped_bits(void)
     for (uint64_t i = 0; i < defaults.capacity; i++) {
         uint64_t *record = us.cells + BATMAN_TABLE_CELLS + BATMAN_RECORD_CELLS * i;
         flip(record, LINKS_AT + LINK_CELLS * record[LINKS_HELD_AT], &used);
+        flip(record + ENTRIES_AT, record[ENTRIES_HELD_AT], &used);
     }
     flip(us.cells, us.count, &all);
     must("a quarter to a half of the bits flipped in records leave a table", percent(used) > 25 && percent(used) < 50, true);
@@ -635,7 +761,12 @@ int main(void)
     forger_stays_ahead();
     sender_is_forged();
     far_originator_as_neighbour();
-    unread_fields_are_passed_on();
+    forged_fields_are_passed_on();
+    longer_mask_takes_an_address();
+    smaller_address_takes_a_network();
+    forged_number_replaces_a_list();
+    first_of_a_number_decides();
+    too_many_entries();
     neighbour_rows_are_filled();
     links_are_filled();
     honest_links_are_shut_out();

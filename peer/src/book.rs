@@ -3,13 +3,14 @@
 //! computed from the lists of counted originator messages by `words.rs`.
 
 use crate::cells::cells_needed;
-use crate::packet::{self, Header, DIRECT, HEADER_OCTETS, UNIDIRECTIONAL};
+use crate::packet::{self, Entry, Header, DIRECT, HEADER_OCTETS, UNIDIRECTIONAL};
 use crate::words::{self, Counted, Link, Words};
 use std::collections::BTreeMap;
 
 pub const INTERFACES_MOST: usize = 4;
 pub const NEIGHBOURS_MOST: usize = 32;
 pub const LINKS_MOST: usize = 8;
+pub const ENTRIES_MOST: usize = 16;
 pub const CAPACITY_MOST: u64 = 256;
 
 /// The tie setting: where the receiving link's count equals the highest other one (RULES 6.5),
@@ -79,11 +80,17 @@ fn own_addresses_differ(rows: &[InterfaceRow]) -> bool {
 pub struct Refusal {
     pub number: u64,
     pub place: u64,
+    /// Whether it came before 15, whose fact holds too; not printed.
+    pub before_15: bool,
 }
 
 /// A refusal without a place.
 pub fn refusal(number: u64) -> Refusal {
-    Refusal { number, place: 0 }
+    Refusal {
+        number,
+        place: 0,
+        before_15: false,
+    }
 }
 
 /// What the best question answers; all 0 where no record is held.
@@ -106,6 +113,8 @@ pub struct ReceiveAnswer {
     pub counted: bool,
     /// Whether its link then tied with the highest other one.
     pub tied: bool,
+    /// Whether it was counted with more entries than a record keeps, and left the list.
+    pub left: bool,
     /// Whether it was an echo that made its neighbour row.
     pub row_made: bool,
 }
@@ -197,6 +206,11 @@ impl Book {
     /// The counted messages of an originator; none where no record is held.
     pub fn list_of(&self, originator: u32) -> &[Counted] {
         self.lists.get(&originator).map_or(&[], |list| list)
+    }
+
+    /// The HNA entries that an originator's record keeps; none where no record is held.
+    pub fn entries_of(&self, originator: u32) -> &[Entry] {
+        words::entries(self.list_of(originator), self.settings.window)
     }
 
     /// The words of a held record.
@@ -331,7 +345,8 @@ impl Book {
         Ok(answer)
     }
 
-    /// The five steps of receiving: the verdict with what is passed on, or refusal 9, 10 or 11.
+    /// The five steps of receiving: the verdict with what is passed on, or refusal 9, 10, 11
+    /// or 15.
     fn judge(&mut self, call: &Receive, header: &Header, link: Link) -> Judged {
         if self.settings.is_own(call.sender) {
             return self.ended(20, header);
@@ -383,7 +398,7 @@ impl Book {
         let repeats_ttl = list.last().is_some_and(|last| last.ttl == header.ttl);
         let counted = bidirectional && !duplicate;
         let words = if counted {
-            Some(self.count(call.time, header, link)?)
+            Some(self.count(call, header, link)?)
         } else {
             self.words_of(header.originator)
         };
@@ -392,6 +407,7 @@ impl Book {
             best: self.best_by(words.as_ref()),
             counted,
             tied: counted && words.as_ref().is_some_and(|words| words.tied(link)),
+            left: counted && packet::entries_in(&call.packet) > ENTRIES_MOST,
             ..ReceiveAnswer::default()
         };
         let best = words.is_some_and(|words| words.best == link);
@@ -407,28 +423,59 @@ impl Book {
     }
 
     /// Adds one message to its originator's list and gives the list's words, or refuses by
-    /// 10 or 11.
-    fn count(&mut self, time: u64, header: &Header, link: Link) -> Result<Words, Refusal> {
+    /// 10, 11 or 15.
+    fn count(&mut self, call: &Receive, header: &Header, link: Link) -> Result<Words, Refusal> {
         let full = self.lists.len() as u64 >= self.settings.capacity;
+        let many = packet::entries_in(&call.packet) > ENTRIES_MOST;
         if full && !self.lists.contains_key(&header.originator) {
-            return Err(refusal(10));
+            return Err(Refusal {
+                before_15: many,
+                ..refusal(10)
+            });
         }
         let message = Counted {
             number: header.number,
             link,
-            time,
+            time: call.time,
             ttl: header.ttl,
+            entries: packet::entries(&call.packet[HEADER_OCTETS..]),
         };
         let Settings { window, tie, .. } = self.settings;
         let list = self.lists.entry(header.originator).or_default();
         list.push(message);
         let words = words::words(list, window, tie).expect("the list has a message");
-        if words.held.len() > LINKS_MOST {
-            list.pop();
-            return Err(refusal(11));
+        match no_room(&words, many) {
+            None => Ok(words),
+            Some(refusal) => {
+                self.uncount(header.originator);
+                Err(refusal)
+            }
         }
-        Ok(words)
     }
+
+    /// Takes an originator's last message back; a list is never left empty.
+    fn uncount(&mut self, originator: u32) {
+        let Some(list) = self.lists.get_mut(&originator) else {
+            return;
+        };
+        list.pop();
+        if list.is_empty() {
+            self.lists.remove(&originator);
+        }
+    }
+}
+
+/// Refusals 11 and 15, by the words after a message is counted; `many`: it has more entries than
+/// a record keeps.
+fn no_room(words: &Words, many: bool) -> Option<Refusal> {
+    let replaces = words.moved;
+    if words.held.len() > LINKS_MOST {
+        return Some(Refusal {
+            before_15: replaces && many,
+            ..refusal(11)
+        });
+    }
+    (replaces && many).then(|| refusal(15))
 }
 
 /// The copy for the receiving interface: TTL one less, U and D set anew, all else kept.

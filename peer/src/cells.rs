@@ -2,8 +2,10 @@
 //! nowhere else. The book as cells, and whether cells are a well-formed table (RULES 5.3).
 
 use crate::book::{
-    Book, Settings, CAPACITY_MOST, INTERFACES_MOST, LINKS_MOST, NEIGHBOURS_MOST, TIE_MOST,
+    Book, Settings, CAPACITY_MOST, ENTRIES_MOST, INTERFACES_MOST, LINKS_MOST, NEIGHBOURS_MOST,
+    TIE_MOST,
 };
+use crate::packet::{Entry, MASK_MOST};
 use crate::words::{self, Counted, Link};
 
 /// The settings and numbers at the start of a table, a cell each.
@@ -46,8 +48,10 @@ pub mod record {
     pub const TTL: usize = 3;
     pub const LINKS_HELD: usize = 4;
     pub const BEST: usize = 5;
-    pub const LINKS: usize = 6;
-    pub const CELLS: usize = LINKS + crate::book::LINKS_MOST * super::link::CELLS;
+    pub const ENTRIES_HELD: usize = 6;
+    pub const LINKS: usize = 7;
+    pub const ENTRIES: usize = LINKS + crate::book::LINKS_MOST * super::link::CELLS;
+    pub const CELLS: usize = ENTRIES + crate::book::ENTRIES_MOST;
 }
 
 /// The cells of a link in a record.
@@ -95,10 +99,18 @@ pub fn capacity_of(cells: u64) -> u64 {
 
 const ADDRESS_END: u64 = 1 << 32;
 const NUMBER_END: u64 = 1 << 16;
+/// A network's place in an entry's cell, above the octet of the mask.
+pub const NETWORK_UNIT: u64 = 1 << 8;
+pub const ENTRY_END: u64 = ADDRESS_END * NETWORK_UNIT;
 
 /// A link's or neighbour row's key.
 pub fn key(link: Link) -> u64 {
     u64::from(link.neighbour) * 4 + u64::from(link.interface)
+}
+
+/// An entry's cell: its five octets read high octet first.
+pub fn entry_cell(entry: Entry) -> u64 {
+    u64::from(entry.network) * NETWORK_UNIT + u64::from(entry.mask)
 }
 
 /// Writes the book over the cells lent, which are as many as its capacity needs.
@@ -165,6 +177,11 @@ fn encode_record(originator: u32, list: &[Counted], settings: &Settings, record:
             .fold(0, |word, (_, number)| {
                 word | 1 << current.wrapping_sub(*number)
             });
+    }
+    let entries = words::entries(list, window);
+    record[record::ENTRIES_HELD] = entries.len() as u64;
+    for (place, entry) in entries.iter().enumerate() {
+        record[record::ENTRIES + place] = entry_cell(*entry);
     }
 }
 
@@ -267,13 +284,15 @@ fn record_well_formed(cells: &[u64], record: &[u64]) -> bool {
         && record[record::TTL] <= 255
         && (1..=LINKS_MOST as u64).contains(&record[record::LINKS_HELD])
         && links_well_formed(cells, record)
+        && entries_well_formed(record)
 }
 
 fn links_well_formed(cells: &[u64], record: &[u64]) -> bool {
     let window = cells[head::WINDOW];
     let best = record[record::BEST];
     let held = record[record::LINKS_HELD] as usize;
-    let (held_cells, unused) = record[record::LINKS..].split_at(held * link::CELLS);
+    let all = &record[record::LINKS..record::ENTRIES];
+    let (held_cells, unused) = all.split_at(held * link::CELLS);
     let links: Vec<&[u64]> = held_cells.chunks(link::CELLS).collect();
     let fits = |marks: u64| window == 64 || marks >> window == 0;
     let is_best = |link: &&[u64]| link[link::KEY] == best;
@@ -286,4 +305,14 @@ fn links_well_formed(cells: &[u64], record: &[u64]) -> bool {
             .all(|link| link[link::MARKS] != 0 || is_best(link))
         && links.iter().any(is_best)
         && zeros(unused)
+}
+
+fn entries_well_formed(record: &[u64]) -> bool {
+    let held = record[record::ENTRIES_HELD];
+    if held > ENTRIES_MOST as u64 {
+        return false;
+    }
+    let (entries, unused) = record[record::ENTRIES..].split_at(held as usize);
+    let fits = |cell: &u64| *cell < ENTRY_END && cell % NETWORK_UNIT <= u64::from(MASK_MOST);
+    entries.iter().all(fits) && zeros(unused)
 }

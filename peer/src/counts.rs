@@ -1,8 +1,9 @@
 //! How often a play met what it does not print, so that a comparison can say what its scripts
 //! reached.
 
-use crate::book::{Judged, ReceiveAnswer, NEWEST_WINS};
+use crate::book::{Judged, ReceiveAnswer, Refusal, NEWEST_WINS};
 use crate::burst::{written, Burst, Faults};
+use crate::lookup::{located, Covering};
 use crate::words::Link;
 use std::collections::BTreeMap;
 
@@ -22,10 +23,38 @@ pub const SHORT: &str = "burst-short";
 pub const EMPTY: &str = "burst-empty";
 /// An echo made a row, and a message by it was counted in the same burst.
 pub const ECHO: &str = "burst-echo";
+/// A lookup found an entry, or none.
+pub const FOUND: &str = "lookup-found";
+pub const NONE: &str = "lookup-none";
+/// Another originator's entry has an equal mask and covers the address, too.
+pub const ORIGINATOR: &str = "lookup-originator";
+/// So does an entry of the same list that differs, below the mask.
+pub const ENTRY: &str = "lookup-entry";
+/// A counted message with more entries than a record keeps left the list as it was.
+pub const LEFT: &str = "entries-left";
+/// Refusal 10, or 11, was given to a message for which 15's fact holds too.
+pub const TEN_FIRST: &str = "entries-10";
+pub const ELEVEN_FIRST: &str = "entries-11";
 
 /// Every word that is counted.
-pub const WORDS: [&str; 10] = [
-    NEWEST, STAYS, LISTS, COUNT, ROWS, SUM, WRAP, SHORT, EMPTY, ECHO,
+pub const WORDS: [&str; 17] = [
+    NEWEST,
+    STAYS,
+    LISTS,
+    COUNT,
+    ROWS,
+    SUM,
+    WRAP,
+    SHORT,
+    EMPTY,
+    ECHO,
+    FOUND,
+    NONE,
+    ORIGINATOR,
+    ENTRY,
+    LEFT,
+    TEN_FIRST,
+    ELEVEN_FIRST,
 ];
 
 #[derive(Default)]
@@ -50,10 +79,32 @@ impl Counts {
         *self.met.entry(word).or_default() += u64::from(met);
     }
 
+    /// A packet that was refused.
+    pub fn packet_refused(&mut self, refusal: &Refusal) {
+        self.add(TEN_FIRST, refusal.before_15 && refusal.number == 10);
+        self.add(ELEVEN_FIRST, refusal.before_15 && refusal.number == 11);
+    }
+
     /// A packet that was not refused, under this tie setting.
     pub fn answered(&mut self, answer: &ReceiveAnswer, tie: u64) {
         let word = if tie == NEWEST_WINS { NEWEST } else { STAYS };
         self.add(word, answer.tied);
+        self.add(LEFT, answer.left);
+    }
+
+    /// A lookup that was not refused, by the entries that cover the address.
+    pub fn looked_up(&mut self, covering: &[Covering]) {
+        let Some(found) = located(covering) else {
+            return self.add(NONE, true);
+        };
+        self.add(FOUND, true);
+        let level = |other: &&Covering| other.entry.mask == found.entry.mask;
+        let (own, others): (Vec<&Covering>, Vec<&Covering>) = covering
+            .iter()
+            .filter(level)
+            .partition(|other| other.originator == found.originator);
+        self.add(ORIGINATOR, !others.is_empty());
+        self.add(ENTRY, own.iter().any(|other| other.entry != found.entry));
     }
 
     /// A burst that was refused by 14.

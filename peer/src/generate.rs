@@ -4,6 +4,7 @@
 mod breaks;
 mod bursts;
 mod calls;
+mod entries;
 mod messages;
 mod odd;
 mod random;
@@ -123,7 +124,13 @@ impl Generator<'_> {
     fn before_any_make(&mut self) {
         self.say("# a generated script".to_string());
         self.say("dump".to_string());
-        for line in ["best 1", "list 1 8", "sweep 0", "own 0 0 50 0 0 12 -"] {
+        for line in [
+            "best 1",
+            "list 1 8",
+            "lookup 1",
+            "sweep 0",
+            "own 0 0 50 0 0 12 -",
+        ] {
             self.say(line.to_string());
         }
         self.say("receive 0 1 0 12 040032000001000000000009".to_string());
@@ -210,14 +217,21 @@ impl Generator<'_> {
         }
     }
 
-    /// One call, or a few that belong together. `whole`: pokes and makes are allowed.
+    /// One call, or a few that belong together, and at times a lookup of what it left.
+    /// `whole`: pokes and makes are allowed.
     fn action(&mut self, whole: bool) {
+        self.action_before_lookup(whole);
+        if self.random.chance(150) {
+            self.lookup();
+        }
+    }
+
+    fn action_before_lookup(&mut self, whole: bool) {
         let (own, echo) = match self.stage.kind {
             Kind::Timeout => (200, 200),
             Kind::Neighbours => (20, 300),
             Kind::Links => (20, 90),
-            Kind::Runs | Kind::Ties => (10, 30),
-            Kind::Full => (10, 30),
+            Kind::Runs | Kind::Ties | Kind::Entries | Kind::Full => (10, 30),
             _ => (80, 130),
         };
         let roll = self.random.below(1000);
@@ -236,6 +250,15 @@ impl Generator<'_> {
             return match self.random.below(20) {
                 0 if self.stage.stay < 900 => self.leave_best_behind(),
                 _ => self.message_by_row(),
+            };
+        }
+        if self.stage.kind == Kind::Links && self.random.chance(100) {
+            return self.one_link_more();
+        }
+        if self.stage.kind == Kind::Entries && self.random.chance(600) {
+            return match self.random.below(5) {
+                0..2 => self.message_by_row(),
+                _ => self.lookup(),
             };
         }
         if self.stage.kind == Kind::Ties && self.random.chance(750) {

@@ -10,6 +10,7 @@ mod burst;
 mod cells;
 mod counts;
 mod generate;
+mod lookup;
 mod outside;
 mod packet;
 mod play;

@@ -1,12 +1,15 @@
 //! Turns captured packets (lines `sender hex`) into a script.
 
 use crate::cells::cells_needed;
+use crate::packet::{entries, fault, HEADER_OCTETS};
+use crate::script::{self, OCTETS_MOST};
 use std::io::{self, Write};
 
 const CAPACITY: u64 = 64;
 
 /// Writes a script that gives each packet to a table of the packets' version and to one of
-/// version 4, after an echo by each sender so that messages can be counted.
+/// version 4, after an echo by each sender so that messages can be counted, and looks up the
+/// networks that it announces.
 pub fn outside(text: &str, output: &mut dyn Write) -> io::Result<()> {
     let packets: Vec<(u32, &str)> = text.lines().filter_map(packet).collect();
     let Some(version) = packets.first().and_then(|(_, hex)| version(hex)) else {
@@ -27,6 +30,9 @@ pub fn outside(text: &str, output: &mut dyn Write) -> io::Result<()> {
         for (place, (sender, hex)) in packets.iter().enumerate() {
             writeln!(output, "check {version} {hex}")?;
             writeln!(output, "receive 0 {sender} {} 2000 {hex}", place + 2)?;
+            for network in networks(version, hex) {
+                writeln!(output, "lookup {network}")?;
+            }
         }
         writeln!(output, "sweep {}", packets.len() + 2)?;
         writeln!(output, "dump")?;
@@ -42,4 +48,14 @@ fn packet(line: &str) -> Option<(u32, &str)> {
 
 fn version(hex: &str) -> Option<u8> {
     u8::from_str_radix(hex.get(..2)?, 16).ok()
+}
+
+/// The networks that a packet announces; none where it has a fault.
+fn networks(version: u8, hex: &str) -> Vec<u32> {
+    let octets = script::hex(hex.as_bytes(), OCTETS_MOST).unwrap_or_default();
+    if fault(u64::from(version), &octets).is_err() {
+        return Vec::new();
+    }
+    let announced = entries(&octets[HEADER_OCTETS..]);
+    announced.iter().map(|entry| entry.network).collect()
 }

@@ -21,6 +21,36 @@ pub struct Header {
     pub originator: u32,
 }
 
+/// An HNA entry: a network as it was announced, whatever its bits below the mask.
+#[derive(Clone, Copy, Debug, PartialEq)]
+pub struct Entry {
+    pub network: u32,
+    pub mask: u8,
+}
+
+impl Entry {
+    /// Whether the network and an address agree in as many leading bits as the mask says.
+    pub fn covers(&self, address: u32) -> bool {
+        // In 64 bits all 32 can be shifted out, as mask 0 does.
+        u64::from(self.network ^ address) >> (MASK_MOST - self.mask) == 0
+    }
+}
+
+/// Reads HNA octets that have no fault: each entry, in packet order.
+pub fn entries(hna: &[u8]) -> Vec<Entry> {
+    hna.chunks(HNA_OCTETS)
+        .map(|octets| Entry {
+            network: u32::from_be_bytes([octets[0], octets[1], octets[2], octets[3]]),
+            mask: octets[4],
+        })
+        .collect()
+}
+
+/// How many HNA entries a packet without a fault has.
+pub fn entries_in(packet: &[u8]) -> usize {
+    (packet.len() - HEADER_OCTETS) / HNA_OCTETS
+}
+
 /// Reads the header of a packet that has at least 12 octets.
 pub fn read(packet: &[u8]) -> Header {
     Header {
@@ -75,8 +105,8 @@ pub fn hna_fault(hna: &[u8]) -> Result<(), Refusal> {
     let bad = |entry: &[u8]| entry[HNA_OCTETS - 1] > MASK_MOST;
     match hna.chunks(HNA_OCTETS).position(bad) {
         Some(place) => Err(Refusal {
-            number: 8,
             place: place as u64,
+            ..refusal(8)
         }),
         None => Ok(()),
     }

@@ -4,7 +4,8 @@ use crate::book::{self, BestAnswer, Book, Judged, Own, Receive, Refusal};
 use crate::burst::Burst;
 use crate::cells;
 use crate::counts::Counts;
-use crate::packet;
+use crate::lookup::{self, Covering};
+use crate::packet::{self, Entry};
 use crate::script::{self, Call, Line, BUFFER_CELLS};
 use std::io::{self, BufRead, Write};
 
@@ -111,6 +112,7 @@ impl Player {
             Call::Sweep { time } => self.sweep(*time, out)?,
             Call::Best { originator } => self.best(*originator, out)?,
             Call::List { originator, rows } => self.list(*originator, *rows, out)?,
+            Call::Lookup { address } => self.lookup(*address, out)?,
             Call::Check { version, packet } => check(*version, packet, out),
             Call::Poke { index, value } => self.poke(*index, *value),
             Call::Dump => self.dump(out),
@@ -170,6 +172,9 @@ impl Player {
 
     /// A packet was answered: the buffer and the counts follow.
     fn packet_answered(&mut self, judged: &Judged) {
+        if let Err(refusal) = judged {
+            self.counts.packet_refused(refusal);
+        }
         if let (Ok(answer), Some(book)) = (judged, &self.book) {
             self.counts.answered(answer, book.settings.tie);
             self.changed();
@@ -258,6 +263,16 @@ impl Player {
         }
         Ok(())
     }
+
+    fn lookup(&mut self, address: u32, out: &mut Vec<u8>) -> Result<(), OutsideBook> {
+        let covering = self.table()?.map(|book| book.covering(address));
+        if let Ok(covering) = &covering {
+            self.counts.looked_up(covering);
+        }
+        say(out, b"lookup", &lookup_fields(&covering));
+        end(out);
+        Ok(())
+    }
 }
 
 fn check(version: u64, octets: &[u8], out: &mut Vec<u8>) {
@@ -313,6 +328,19 @@ fn copy(judged: &Judged) -> &[u8] {
 fn best_fields(best: &BestAnswer) -> [u64; 4] {
     let neighbour = u64::from(best.neighbour);
     [neighbour, best.interface, best.count, best.window]
+}
+
+/// What is printed of a lookup, by the entries that cover the address.
+fn lookup_fields(covering: &Result<Vec<Covering>, Refusal>) -> [u64; 5] {
+    match covering.as_deref().map(lookup::located) {
+        Err(refusal) => [refusal.number, 0, 0, 0, 0],
+        Ok(None) => [0; 5],
+        Ok(Some(found)) => {
+            let Entry { network, mask } = found.entry;
+            let originator = u64::from(found.originator);
+            [0, 1, originator, u64::from(network), u64::from(mask)]
+        }
+    }
 }
 
 /// Prints a word and numbers, each number after a space.

@@ -26,6 +26,7 @@ pub enum Call {
     Sweep { time: u64 },
     Best { originator: u32 },
     List { originator: u32, rows: u64 },
+    Lookup { address: u32 },
     Check { version: u64, packet: Vec<u8> },
     Poke { index: usize, value: u64 },
     Dump,
@@ -100,6 +101,9 @@ fn read_call(name: &[u8], words: &mut Words) -> Option<Call> {
         b"list" => Some(Call::List {
             originator: words.address()?,
             rows: words.at_most(ROWS_MOST)?,
+        }),
+        b"lookup" => Some(Call::Lookup {
+            address: words.address()?,
         }),
         b"check" => Some(Call::Check {
             version: words.number()?,

@@ -13,6 +13,8 @@ use crate::script::{self, Line, BUFFER_CELLS, LINE_MOST};
 use crate::words::{self, Counted, Link};
 use std::io;
 
+mod entries;
+
 const A: Link = by(10);
 const B: Link = by(11);
 const C: Link = by(12);
@@ -40,6 +42,7 @@ fn list(messages: &[(Link, u16)]) -> Vec<Counted> {
             link: *link,
             time: 0,
             ttl: 50,
+            entries: Vec::new(),
         })
         .collect()
 }
@@ -882,9 +885,14 @@ fn what_bursts_met_is_counted() {
         let mut player = Player::new();
         follow(&mut player, &with_rows());
         follow(&mut player, &[line.clone()]);
-        let met = WORDS.iter().filter(|word| player.counts.of(word) > 0);
-        assert_eq!(met.copied().collect::<Vec<_>>(), words, "{line}");
+        assert_eq!(met(&player), words, "{line}");
     }
+}
+
+/// The words that a player counted.
+fn met(player: &Player) -> Vec<&'static str> {
+    let met = WORDS.iter().filter(|word| player.counts.of(word) > 0);
+    met.copied().collect()
 }
 
 /// Plays lines that print what they may.
@@ -915,7 +923,10 @@ fn the_places_of_the_layout() {
     assert_eq!(interface_at(0), 10);
     assert_eq!(neighbour_at(0), 30);
     assert_eq!(record_at(0), 94);
-    assert_eq!(cells_needed(64), 1502);
+    assert_eq!(link_at(0), 7);
+    assert_eq!(record_at(1), 94 + 39);
+    assert_eq!(cells_needed(64), 2590);
+    assert_eq!(cells_needed(256), 10_078);
 }
 
 #[test]

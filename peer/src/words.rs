@@ -1,7 +1,8 @@
 //! The book's words for one originator, each computed from its list of counted messages:
-//! current, marks, counts, best and held links, as demand 3 says them.
+//! current, marks, counts, best and held links, and the list of entries, as demand 3 says them.
 
-use crate::book::{NEWEST_WINS, PRESENT_STAYS};
+use crate::book::{ENTRIES_MOST, NEWEST_WINS, PRESENT_STAYS};
+use crate::packet::Entry;
 use std::cmp::Ordering;
 
 /// A link: rising by neighbour address, then interface.
@@ -12,12 +13,13 @@ pub struct Link {
 }
 
 /// A counted originator message.
-#[derive(Clone, Copy, Debug, PartialEq)]
+#[derive(Clone, Debug, PartialEq)]
 pub struct Counted {
     pub number: u16,
     pub link: Link,
     pub time: u64,
     pub ttl: u8,
+    pub entries: Vec<Entry>,
 }
 
 /// What a held record's list says. `held` rises by link and gives each one's count.
@@ -25,6 +27,8 @@ pub struct Counted {
 pub struct Words {
     pub best: Link,
     pub held: Vec<(Link, u64)>,
+    /// Whether the last message made the record or had a new number.
+    pub moved: bool,
 }
 
 impl Words {
@@ -93,6 +97,21 @@ fn moves(list: &[Counted], window: u64) -> Vec<usize> {
 /// The current number: the list's last that was first or new.
 pub fn current(list: &[Counted], window: u64) -> Option<u16> {
     moves(list, window).last().map(|place| list[*place].number)
+}
+
+/// The entries: those of the latest message that moved the window or made the record.
+pub fn entries(list: &[Counted], window: u64) -> &[Entry] {
+    // The wrong copy "entries": those of the latest message that the record has room for.
+    if cfg!(wrong = "entries") {
+        let fits = |message: &&Counted| message.entries.len() <= ENTRIES_MOST;
+        return list
+            .iter()
+            .rfind(fits)
+            .map_or(&[], |message| &message.entries);
+    }
+    moves(list, window)
+        .last()
+        .map_or(&[], |place| &list[*place].entries)
 }
 
 /// Whether the message at this place still marks its link: its number lay inside after its
@@ -196,5 +215,6 @@ pub fn words(list: &[Counted], window: u64, tie: u64) -> Option<Words> {
     if let Err(place) = held.binary_search_by_key(&best, |(link, _)| *link) {
         held.insert(place, (best, 0));
     }
-    Some(Words { best, held })
+    let moved = moves.last().is_some_and(|place| place + 1 == list.len());
+    Some(Words { best, held, moved })
 }

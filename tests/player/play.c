@@ -45,7 +45,7 @@ static void lists_kept(const struct player *p, const struct burst_lists *l)
     expect(p, is_copy(&p->interfaces, l->interfaces), "an interface, or an octet beside the lent ones, has changed");
 }
 
-static bool is_refusal(uint64_t number) { return number >= BATMAN_NOT_WELL_FORMED && number <= BATMAN_WRONG_BURST; }
+static bool is_refusal(uint64_t number) { return number >= BATMAN_NOT_WELL_FORMED && number <= BATMAN_ENTRIES_FULL; }
 
 /* The cells as the call left them; a refused one leaves them as they were. */
 static void take_cells(struct player *p, uint64_t number)
@@ -184,6 +184,13 @@ static void play_list(struct player *p, const struct line *l)
                rows[i].window, rows[i].best);
 }
 
+static void play_lookup(struct player *p, const struct line *l)
+{
+    struct batman_located a = batman_lookup(lend_cells(p), p->count, l->address);
+    cells_kept(p);
+    printf("lookup %" PRIu64 " %" PRIu32 " %" PRIu32 " %" PRIu32 " %" PRIu32 "\n", a.number, a.found, a.originator, a.network, a.mask);
+}
+
 static void play_check(struct player *p, const struct line *l)
 {
     uint64_t number = batman_packet_check(lend_octets(p, l), l->length, l->version);
@@ -212,6 +219,7 @@ static void play(struct player *p, const struct line *l)
     case SWEEP: play_sweep(p, l); break;
     case BEST: play_best(p, l); break;
     case LIST: play_list(p, l); break;
+    case LOOKUP: play_lookup(p, l); break;
     case CHECK: play_check(p, l); break;
     case POKE: p->buffer[l->index] = l->value; break;
     case DUMP: play_dump(p); break;

@@ -81,7 +81,7 @@ static void read_own(struct words *w, struct line *l)
 }
 
 static void read_sweep(struct words *w, struct line *l) { l->time = any_number(w); }
-static void read_best(struct words *w, struct line *l) { l->address = address(w); }
+static void read_address_alone(struct words *w, struct line *l) { l->address = address(w); }
 
 static void read_list(struct words *w, struct line *l)
 {
@@ -109,8 +109,9 @@ static const struct {
     void (*read)(struct words *w, struct line *l);
 } calls[] = {
     {"size", SIZE, read_size},    {"cells", CELLS, read_cells}, {"make", MAKE, read_make},    {"receive", RECEIVE, read_receive},
-    {"burst", BURST, read_burst}, {"own", OWN, read_own},       {"sweep", SWEEP, read_sweep}, {"best", BEST, read_best},
-    {"list", LIST, read_list},    {"check", CHECK, read_check}, {"poke", POKE, read_poke},    {"dump", DUMP, read_dump},
+    {"burst", BURST, read_burst}, {"own", OWN, read_own},       {"sweep", SWEEP, read_sweep}, {"best", BEST, read_address_alone},
+    {"list", LIST, read_list},    {"check", CHECK, read_check}, {"poke", POKE, read_poke},    {"lookup", LOOKUP, read_address_alone},
+    {"dump", DUMP, read_dump},
 };
 
 /* The kind of a line that begins with this word, its arguments read. */

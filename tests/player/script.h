@@ -15,7 +15,7 @@ enum script_limit {
     BUFFER_CELLS = 66560       /* of which a script lends the first ones */
 };
 
-enum line_kind { NOTHING, UNREADABLE, SIZE, CELLS, MAKE, RECEIVE, BURST, OWN, SWEEP, BEST, LIST, CHECK, POKE, DUMP };
+enum line_kind { NOTHING, UNREADABLE, SIZE, CELLS, MAKE, RECEIVE, BURST, OWN, SWEEP, BEST, LIST, LOOKUP, CHECK, POKE, DUMP };
 
 /* The lists of a burst: the numbers of their members may differ. */
 struct burst_lists {
@@ -30,7 +30,7 @@ struct line {
     struct batman_settings settings;
     struct batman_interfaces interfaces;
     uint64_t capacity, interface, time, version, value;
-    uint32_t address; /* the sender, or the originator asked for */
+    uint32_t address; /* the sender, the originator asked for, or what is looked up */
     uint8_t ttl, gateway;
     uint16_t port;
     size_t cells, index;

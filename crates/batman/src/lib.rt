@@ -4,6 +4,7 @@ use rules::Burst;
 use rules::Interface;
 use rules::LinkRow;
 use rules::Listed;
+use rules::Located;
 use rules::Received;
 use rules::Settings;
 use rules::Swept;
@@ -118,6 +119,14 @@ pub extern "C" fn batman_best(cells: &[u64], originator: u32) -> Asked
     ensures { λ r. ⌜ Promised (now (cells .entry)) (C.question originator) (C.answered (C.asked r)) (now (cells .entry)) ⌝ }
 {
     call_best::best(cells, originator)
+}
+
+// Which originator's entry covers an address: the longest mask, then the smaller originator address, then the earlier entry.
+#[no_mangle]
+pub extern "C" fn batman_lookup(cells: &[u64], address: u32) -> Located
+    ensures { λ r. ⌜ Promised (now (cells .entry)) (C.locate address) (C.answered (C.located r)) (now (cells .entry)) ⌝ }
+{
+    call_lookup::lookup(cells, address)
 }
 
 // Fills the caller's rows, one for each link held to an originator, in table order. Further rows stay as they are.

@@ -13,9 +13,10 @@ use Rattle.lists.proofs.Tests.{and-left}
 use Rattle.wire.specs.declared.Header.{Header}
 use Rattle.wire.specs.declared.Fault.{Fault}
 use Rattle.wire.specs.Layout.{ttlAt}
-use Rattle.wire.specs.Packet.{octet, header}
+use Rattle.wire.specs.Packet.{octet, header, hna}
 use Rattle.wire.specs.PassOn.{flagsHere, flagsElsewhere, passedOn}
 use Rattle.rules.specs.declared.Ogm.{Ogm}
+use Rattle.rules.specs.Messages.{messageOf, ogmOf}
 use Rattle.rules.specs.declared.Received.{Received}
 use Rattle.rules.specs.declared.Route.{Route}
 use Rattle.rules.specs.Settings.{ttlLeast}
@@ -40,17 +41,21 @@ module _ {p o : List ℕ} {m : Arrival} (f : Fits p o m) where
   pub originator-is : m .originator ≡ header p .originator
   originator-is = ap (λ (x : Arrival). x .originator) (f .reads)
 
-  pub message-is : m .ogm ≡ message (callOf p o m) (header p)
-  message-is = ap (λ (x : Arrival). x .ogm) (f .reads)
+  ogm-is : m .ogm ≡ ogmOf (message (callOf p o m) (header p))
+  ogm-is = ap (λ (x : Arrival). x .ogm) (f .reads)
+
+  -- with its HNA octets it is the message
+  pub message-is : messageOf (m .ogm) (hna p) ≡ message (callOf p o m) (header p)
+  message-is = ap (λ (x : Ogm). messageOf x (hna p)) ogm-is
 
   pub link-is : m .ogm .link ≡ linkOf (m .sender) (m .interface)
-  link-is = ap (λ (x : Ogm). x .link) message-is
+  link-is = ap (λ (x : Ogm). x .link) ogm-is
 
   pub ttl-is : m .ogm .ttl ≡ header p .ttl
-  ttl-is = ap (λ (x : Ogm). x .ttl) message-is
+  ttl-is = ap (λ (x : Ogm). x .ttl) ogm-is
 
   pub sequence-is : m .ogm .sequence ≡ header p .sequence
-  sequence-is = ap (λ (x : Ogm). x .sequence) message-is
+  sequence-is = ap (λ (x : Ogm). x .sequence) ogm-is
 
 pub leaves-by : {reply : Reply} {d : List ℕ} {x y : OutcomeOf table} → x ≡ y → Left y reply d → Left x reply d
 leaves-by {reply} {d} e l = subst (λ (z : OutcomeOf table). Left z reply d) (sym e) l

@@ -16,11 +16,11 @@ use Rattle.window.specs.Window.{distance, mark, count, hasMark}
 use Rattle.wire.specs.declared.Header.{Header}
 use Rattle.wire.specs.declared.Fault.{Fault}
 use Rattle.wire.specs.Packet.{header, isU}
-use Rattle.wire.specs.Check.{numbered}
-use Rattle.rules.specs.Settings.{Config, neighbourMost, linkMost, isOwn, isBroadcast}
+use Rattle.wire.specs.Check.{numbered, firstOf}
+use Rattle.rules.specs.Settings.{Config, neighbourMost, linkMost, entryMost, isOwn, isBroadcast}
 use Rattle.rules.specs.Calls.{ReceiveArgs, receive}
-use Rattle.rules.specs.declared.Ogm.{Ogm}
-use Rattle.rules.specs.Rules.{sequenceOf, OutcomeOf, branch, unless, receiveFault, linkBy, message, isEcho, isDuplicate, isFresh, isPassedOn, routeOf, withTime, withRows, refuse, verdict, conclude, storeCounted, counted, uncounted, decide, takeEcho, judge, step}
+use Rattle.rules.specs.Messages.{Message}
+use Rattle.rules.specs.Rules.{sequenceOf, OutcomeOf, branch, unless, receiveFault, linkBy, message, isEcho, isDuplicate, isFresh, isPassedOn, routeOf, withTime, withRows, refuse, verdict, conclude, countedFaults, storeCounted, counted, uncounted, decide, takeEcho, judge, step}
 use Rattle.rules.specs.Table.{TableRecord, TableState, settle, withLinks, begun, firstRecord, nextRecord, recordEcho, table}
 use Rattle.table_changes.specs.Changes.{withRecords}
 use Rattle.call_receive_arrival.specs.Receiving.{ownMessage, foreign}
@@ -33,7 +33,7 @@ holding s h x = withRecords (put (h .originator) x (s .records)) s
 abbrev pub concludes : TableState → ReceiveArgs → Header → (bidirectional fresh : Bool) → Option TableRecord → OutcomeOf table
 concludes s a h b f x = record { reply = conclude a h b (isPassedOn table (s .config) a h b f x) (routeOf table (s .config) x); state = withTime table s (a .time) }
 
-settle-few : (κ : Config) (m : Ogm) (v : ℕ) (x : TableRecord) → length (settle κ m v x .links) ≤ length (x .links)
+settle-few : (κ : Config) (m : Message) (v : ℕ) (x : TableRecord) → length (settle κ m v x .links) ≤ length (x .links)
 settle-few κ m v x = keep-length (λ (e : ℕ × ℕ). hasMark (e .1) || eqb (e .0) (settle κ m v x .best)) (x .links)
 
 and-false : (t : Bool) → (t && false) ≡ false
@@ -117,14 +117,15 @@ module _ (s : TableState) (a : ReceiveArgs) where
       abbrev next : TableRecord
       next = nextRecord (s .config) (message a h) x
 
-      pub way-11 : (b : Bool) → isCounted b (some x) ≡ true → linkMost < length (next .links) → decide table s a h b (some x) ≡ refuse table (receive a) s (numbered 11)
+      -- 11 or 15
+      pub way-full : (b : Bool) → isCounted b (some x) ≡ true → {f : Fault} → firstOf (countedFaults table (s .config) next) ≡ some f → decide table s a h b (some x) ≡ refuse table (receive a) s f
       unfolding decide branch counted storeCounted unless
-      way-11 b e l = rw (e, length-mapValues count (next .links), lt-ltb linkMost (length (next .links)) l)
+      way-full b e l = rw (e, l)
 
       -- best is judged after counting
-      pub way-next : (b : Bool) → isCounted b (some x) ≡ true → length (next .links) ≤ linkMost → decide table s a h b (some x) ≡ concludes (holding s h next) a h b (fresh (some x)) (some next)
+      pub way-next : (b : Bool) → isCounted b (some x) ≡ true → firstOf (countedFaults table (s .config) next) ≡ none → decide table s a h b (some x) ≡ concludes (holding s h next) a h b (fresh (some x)) (some next)
       unfolding decide branch counted storeCounted unless
-      way-next true e l = rw (e, length-mapValues count (next .links), le-ltb linkMost (length (next .links)) l)
+      way-next true e l = rw (e, l)
       way-next false e l = absurd (false≢true e)
 
     -- the first counted makes the record
@@ -143,6 +144,12 @@ module _ (s : TableState) (a : ReceiveArgs) where
     unfolding decide branch counted unless
     way-10 l = rw (le-leb (s .config .settings .capacity) (length (s .records)) l)
 
-    pub way-first : length (s .records) < s .config .settings .capacity → decide table s a h true none ≡ concludes (holding s h first) a h true true (some first)
-    unfolding decide branch counted storeCounted unless
-    way-first l = rw (lt-leb (s .config .settings .capacity) (length (s .records)) l, length-mapValues count (first .links), le-ltb linkMost (length (first .links)) first-few)
+    module _ (l : length (s .records) < s .config .settings .capacity) where
+      -- its entries are the message's
+      pub way-15 : entryMost < length (message a h .entries) → decide table s a h true none ≡ refuse table (receive a) s (numbered 15)
+      unfolding decide branch counted storeCounted unless firstRecord
+      way-15 k = rw (lt-leb (s .config .settings .capacity) (length (s .records)) l, length-mapValues count (first .links), le-ltb linkMost (length (first .links)) first-few, lt-ltb entryMost (length (message a h .entries)) k)
+
+      pub way-first : length (message a h .entries) ≤ entryMost → decide table s a h true none ≡ concludes (holding s h first) a h true true (some first)
+      unfolding decide branch counted storeCounted unless firstRecord
+      way-first k = rw (lt-leb (s .config .settings .capacity) (length (s .records)) l, length-mapValues count (first .links), le-ltb linkMost (length (first .links)) first-few, le-ltb entryMost (length (message a h .entries)) k)

@@ -15,6 +15,7 @@ use Rattle.rules.specs.declared.Route.{Route}
 use Rattle.rules.specs.declared.Interface.{Interface}
 use Rattle.rules.specs.Settings.{ttlLeast, isAddress}
 use Rattle.rules.specs.Calls.{neighbourOf, received, receive, ReceiveArgs, receivedAs, answeredWriting, noRoute}
+use Rattle.rules.specs.Messages.{ogmOf}
 use Rattle.rules.specs.Rules.{OutcomeOf, branch, lastSent, isEcho, takeEcho, verdict, linkBy, message, withTime, routeOf, conclude, decide, step}
 use Rattle.rules.specs.Table.{TableState, table}
 use Rattle.rules.specs.WellFormed.{wellFormed}
@@ -37,7 +38,7 @@ arrivalOf p a i t =
       interface = i;
       flags = header p .flags;
       originator = header p .originator;
-      ogm = message (argsOf p a i t []) (header p);
+      ogm = ogmOf (message (argsOf p a i t []) (header p));
     }
 
 -- a message's call, with its packet and the lent output

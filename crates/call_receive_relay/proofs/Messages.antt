@@ -1,20 +1,22 @@
 -- Messages of other nodes: what each end leaves. Assumes nothing.
 use mathlib.Core.Path.{_≡_, refl, sym, ap, ap₂, _∙_, subst}
-use mathlib.Core.Bool.{Bool, true, false, cond, _&&_, not}
+use mathlib.Core.Bool.{Bool, true, false, cond, _&&_, not, false≢true}
 use mathlib.Core.Option.{Option, none, some}
 use mathlib.Core.List.{List}
 use Prim.Native.Nat.{ℕ, _≤_, _<_}
 use native.Mathlib.Omega.{arith}
-use lib.ListN.{length, getD}
-use borrow.Author.Tests.{leb-true, leb-false}
+use lib.ListN.{getD}
+use Rattle.lists.specs.Lists.{maybe}
 use Rattle.lists.specs.Keyed.{lookup, hasKey, put}
 use Rattle.lists.proofs.Tests.{and-left, and-right}
-use Rattle.wire.specs.Packet.{header}
-use Rattle.wire.specs.Check.{numbered}
-use Rattle.rules.specs.declared.Ogm.{Ogm}
+use Rattle.wire.specs.declared.Fault.{Fault}
+use Rattle.wire.specs.Packet.{header, hna}
+use Rattle.wire.specs.Check.{numbered, entries}
+use Rattle.wire.proofs.Entries.{length-entries}
+use Rattle.rules.specs.Messages.{Message, messageOf}
 use Rattle.rules.specs.declared.Received.{Received}
 use Rattle.rules.specs.declared.Route.{Route}
-use Rattle.rules.specs.Settings.{linkMost}
+use Rattle.rules.specs.Settings.{entryMost}
 use Rattle.rules.specs.Calls.{ReceiveArgs, receive, noRoute}
 use Rattle.rules.specs.Rules.{message, isBestBy, isDuplicate, isFresh, routeOf, refuse, decide}
 use Rattle.rules.specs.Table.{TableRecord, TableState, firstRecord, nextRecord, table}
@@ -23,14 +25,18 @@ use Rattle.table_layout.specs.Cells.{encode, decode}
 use Rattle.count_in_record.specs.declared.Answer.{Answer}
 use Rattle.count_in_record.specs.declared.Heard.{Heard}
 use Rattle.count_in_record.specs.declared.Heard.the-variants as H
-use Rattle.count_in_record.specs.Counting.{hasRoom, isRepeated, isFreshIn, isCounted, isTaken, Answers}
+use Rattle.count_in_record.specs.Counting.{faultOf, isRepeated, isFreshIn, isCounted, isTaken, Answers}
 use Rattle.table_changes.specs.Changes.{withRecords}
 use Rattle.table_originators.specs.Originators.{Stands, Missing, standingAt, HeardAt, Made}
 use Rattle.table_originators.proofs.Changed.{records-count}
 use Rattle.call_receive_arrival.specs.declared.Arrival.{Arrival}
 use Rattle.call_receive_arrival.specs.Receiving.{callOf, after, Leaves, Concluded, Fits, Decides}
-use Rattle.call_receive_arrival.proofs.Ways.{holding, concludes, way-kept, way-11, way-next, way-10, way-first}
+use Rattle.call_receive_arrival.proofs.Ways.{holding, concludes, way-kept, way-full, way-next, way-10, way-15, way-first}
 use Rattle.call_receive_arrival.proofs.Endings.{message-is, link-is, originator-is, concludes-left}
+
+not-refused : (x : Option Fault) → maybe x true (λ v. false) ≡ true → x ≡ none
+not-refused none h = refl
+not-refused (some v) h = absurd (false≢true h)
 
 module _ {c p o : List ℕ} {m : Arrival} {b : Bool} (w : Decides c p o m b) where
   abbrev s : TableState
@@ -41,6 +47,10 @@ module _ {c p o : List ℕ} {m : Arrival} {b : Bool} (w : Decides c p o m b) whe
 
   f : Fits p o m
   f = w .taken .fits
+
+  -- the message, as the code carries it
+  abbrev said : Message
+  said = messageOf (m .ogm) (hna p)
 
   -- the cells are those of the table that they hold
   same : c ≡ encode s
@@ -53,15 +63,15 @@ module _ {c p o : List ℕ} {m : Arrival} {b : Bool} (w : Decides c p o m b) whe
       ∙ ap₂ (decide table s a (header p)) (sym (w .link ∙ ap (λ (l : ℕ). hasKey l (s .rows)) (link-is f))) (ap (λ (k : ℕ). lookup k (s .records)) (sym (originator-is f)) ∙ e)
 
   -- the cells of the table with a record x that a message makes, by the message as it came
-  held : (x : Ogm → TableRecord) {d : List ℕ} → d ≡ encode (withRecords (put (m .originator) (x (m .ogm)) (s .records)) s) → d ≡ encode (holding s (header p) (x (message a (header p))))
-  held x e = e ∙ ap₂ (λ (k : ℕ) (n : Ogm). encode (withRecords (put k (x n) (s .records)) s)) (originator-is f) (message-is f)
+  held : (x : Message → TableRecord) {d : List ℕ} → d ≡ encode (withRecords (put (m .originator) (x said) (s .records)) s) → d ≡ encode (holding s (header p) (x (message a (header p))))
+  held x e = e ∙ ap₂ (λ (k : ℕ) (n : Message). encode (withRecords (put k (x n) (s .records)) s)) (originator-is f) (message-is f)
 
   -- its link is best, and the route, by such a record
-  best-by : (x : Ogm → TableRecord) {best : Bool} → best ≡ table .isBest (s .config) (x (m .ogm)) (m .ogm .link) → best ≡ isBestBy table (s .config) a (some (x (message a (header p))))
-  best-by x e = e ∙ ap (λ (n : Ogm). table .isBest (s .config) (x n) (n .link)) (message-is f)
+  best-by : (x : Message → TableRecord) {best : Bool} → best ≡ table .isBest (s .config) (x said) (said .link) → best ≡ isBestBy table (s .config) a (some (x (message a (header p))))
+  best-by x e = e ∙ ap (λ (n : Message). table .isBest (s .config) (x n) (n .link)) (message-is f)
 
-  route-by : (x : Ogm → TableRecord) {route : Route} → route ≡ routeOf table (s .config) (some (x (m .ogm))) → route ≡ routeOf table (s .config) (some (x (message a (header p))))
-  route-by x e = e ∙ ap (λ (n : Ogm). routeOf table (s .config) (some (x n))) (message-is f)
+  route-by : (x : Message → TableRecord) {route : Route} → route ≡ routeOf table (s .config) (some (x said)) → route ≡ routeOf table (s .config) (some (x (message a (header p))))
+  route-by x e = e ∙ ap (λ (n : Message). routeOf table (s .config) (some (x n))) (message-is f)
 
   -- ---- of an originator that has no record, and would have it at place i
 
@@ -79,64 +89,69 @@ module _ {c p o : List ℕ} {m : Arrival} {b : Bool} (w : Decides c p o m b) whe
     unfolding decode
     first-full t h = counted-first t ∙ way-10 s a (header p) (omega (arith, records-count c))
 
-    pub first-made : b ≡ true → getD c recordsAt 0 < getD c capacityAt 0 → {d : List ℕ} {route : Route} → Made c d (m .originator) (m .ogm) route
+    -- 15: it has too many entries
+    pub first-many : b ≡ true → getD c recordsAt 0 < getD c capacityAt 0 → entryMost < entries (hna p) → after c p o m ≡ refuse table (receive a) s (numbered 15)
+    unfolding decode
+    first-many t h k = counted-first t ∙ way-15 s a (header p) (omega (arith, records-count c)) (omega (arith, length-entries (hna p)))
+
+    pub first-made : b ≡ true → getD c recordsAt 0 < getD c capacityAt 0 → entries (hna p) ≤ entryMost → {d : List ℕ} {route : Route} → Made c d (m .originator) said route
         → {e q : List ℕ} {r : Received} → Concluded d p o m true true route e q r → Leaves e q r (after c p o m)
     unfolding decode
-    first-made t h g k =
+    first-made t h few g k =
         let x = firstRecord (s .config) in
-        concludes-left f (holding s (header p) (x (message a (header p)))) true true (some (x (message a (header p)))) (counted-first t ∙ way-first s a (header p) (omega (arith, records-count c))) (held x (g .cells))
+        concludes-left f (holding s (header p) (x (message a (header p)))) true true (some (x (message a (header p)))) (counted-first t ∙ way-first s a (header p) (omega (arith, records-count c)) (omega (arith, length-entries (hna p)))) (held x (g .cells))
         (ap (λ (y : Bool). y && true) (best-by x (sym (g .best)))) (route-by x (g .route)) k
 
   -- ---- of an originator whose record stands at place i, which is told of it
 
-  module _ {i : ℕ} (at : Stands c (m .originator) i) {d : List ℕ} {g : Heard} (h : HeardAt c d (m .originator) i (m .ogm) b g) where
+  module _ {i : ℕ} (at : Stands c (m .originator) i) {d : List ℕ} {g : Heard} (h : HeardAt c d (m .originator) i said b g) where
     abbrev x : TableRecord
     x = standingAt c i
 
-    abbrev next : Ogm → TableRecord
+    abbrev next : Message → TableRecord
     next n = nextRecord (s .config) n x
 
     -- whether it is counted, as the rules say it
-    counted-is : isCounted (s .config) (m .ogm) b x ≡ (b && not (isDuplicate table (s .config) a (header p) (some x)))
-    counted-is = ap (λ (n : Ogm). isCounted (s .config) n b x) (message-is f)
+    counted-is : isCounted (s .config) said b x ≡ (b && not (isDuplicate table (s .config) a (header p) (some x)))
+    counted-is = ap (λ (n : Message). isCounted (s .config) n b x) (message-is f)
 
     fresh : Bool
     fresh = isFresh table (s .config) a (header p) (some x)
 
-    fresh-is : isFreshIn (s .config) (m .ogm) x ≡ fresh
+    fresh-is : isFreshIn (s .config) said x ≡ fresh
     unfolding fresh
-    fresh-is = ap (λ (n : Ogm). isFreshIn (s .config) n x) (message-is f)
+    fresh-is = ap (λ (n : Message). isFreshIn (s .config) n x) (message-is f)
 
     -- the rules come to the record's answers
     by-standing : after c p o m ≡ decide table s a (header p) b (some x)
     by-standing = by-record (some x) (at .found)
 
     -- what becomes of it, and the cells, by whether the next record takes its place
-    answers : {v : Heard} → g ≡ v → Answers (s .config) (m .ogm) b x v
-    answers e = subst (Answers (s .config) (m .ogm) b x) e (h .answers)
+    answers : {v : Heard} → g ≡ v → Answers (s .config) said b x v
+    answers e = subst (Answers (s .config) said b x) e (h .answers)
 
-    left : {t : Bool} → isTaken (s .config) (m .ogm) b x ≡ t → d ≡ cond t (encode (withRecords (put (m .originator) (next (m .ogm)) (s .records)) s)) c
-    left e = h .cells ∙ ap (λ (t : Bool). cond t (encode (withRecords (put (m .originator) (next (m .ogm)) (s .records)) s)) c) e
+    left : {t : Bool} → isTaken (s .config) said b x ≡ t → d ≡ cond t (encode (withRecords (put (m .originator) (next said) (s .records)) s)) c
+    left e = h .cells ∙ ap (λ (t : Bool). cond t (encode (withRecords (put (m .originator) (next said) (s .records)) s)) c) e
 
-    pub again-full : g ≡ H.LinksFull → after c p o m ≡ refuse table (receive a) s (numbered 11)
+    pub again-full : {v : Fault} → g ≡ H.Refused v → after c p o m ≡ refuse table (receive a) s v
     again-full e =
         let l = answers e in
-        by-standing
-        ∙ way-11 s a (header p) x b (sym counted-is ∙ l .0) (subst (λ (n : Ogm). linkMost < length (next n .links)) (message-is f) (leb-false (length (next (m .ogm) .links)) linkMost (l .1)))
+        by-standing ∙ way-full s a (header p) x b (sym counted-is ∙ l .0) (ap (λ (n : Message). faultOf (s .config) (next n)) (sym (message-is f)) ∙ l .1)
 
-    pub again-same : g ≡ H.LinksFull → d ≡ c
-    again-same e = let l = answers e in left (λ j. l .0 j && l .1 j)
+    pub again-same : {v : Fault} → g ≡ H.Refused v → d ≡ c
+    again-same e = let l = answers e in left (λ j. l .0 j && maybe (l .1 j) true (λ v. false))
 
     pub again-counted : {v : Answer} → g ≡ H.Counted v → {e q : List ℕ} {r : Received} → Concluded d p o m true (v .best && v .fresh) (v .route) e q r → Leaves e q r (after c p o m)
     unfolding fresh
     again-counted {v} eg k =
         let l = answers eg in
         let y = next (message a (header p)) in
-        let counted = and-left (isCounted (s .config) (m .ogm) b x) (hasRoom (next (m .ogm))) (l .0) in
-        let room = and-right (isCounted (s .config) (m .ogm) b x) (hasRoom (next (m .ogm))) (l .0) in
-        let by : b ≡ true = and-left b (not (isRepeated (s .config) (m .ogm) x)) counted in
+        let taken = maybe (faultOf (s .config) (next said)) true (λ v. false) in
+        let counted = and-left (isCounted (s .config) said b x) taken (l .0) in
+        let room = not-refused (faultOf (s .config) (next said)) (and-right (isCounted (s .config) said b x) taken (l .0)) in
+        let by : b ≡ true = and-left b (not (isRepeated (s .config) said x)) counted in
         concludes-left f (holding s (header p) y) true fresh (some y)
-        (by-standing ∙ way-next s a (header p) x b (sym counted-is ∙ counted) (subst (λ (n : Ogm). length (next n .links) ≤ linkMost) (message-is f) (leb-true (length (next (m .ogm) .links)) linkMost room))
+        (by-standing ∙ way-next s a (header p) x b (sym counted-is ∙ counted) (ap (λ (n : Message). faultOf (s .config) (next n)) (sym (message-is f)) ∙ room)
         ∙ ap (λ (t : Bool). concludes (holding s (header p) y) a (header p) t fresh (some y)) by)
         (held next (left (l .0))) (λ j. best-by next (l .1 .best) j && (l .1 .fresh ∙ fresh-is) j) (route-by next (l .1 .route)) k
 
@@ -144,5 +159,5 @@ module _ {c p o : List ℕ} {m : Arrival} {b : Bool} (w : Decides c p o m b) whe
     unfolding fresh
     again-kept {v} eg k =
         let l = answers eg in
-        concludes-left f s b fresh (some x) (by-standing ∙ way-kept s a (header p) b (some x) (sym counted-is ∙ l .0)) (left (λ j. l .0 j && hasRoom (next (m .ogm))) ∙ same)
+        concludes-left f s b fresh (some x) (by-standing ∙ way-kept s a (header p) b (some x) (sym counted-is ∙ l .0)) (left (λ j. l .0 j && maybe (faultOf (s .config) (next said)) true (λ v. false)) ∙ same)
         (λ j. b && (best-by (λ n. x) (l .1 .best) j && (l .1 .fresh ∙ fresh-is) j)) (l .1 .route) k

@@ -5,7 +5,9 @@ use call_receive_arrival::conclude;
 use call_receive_arrival::refused;
 use cells::Found;
 use count_in_record::Heard;
+use packet_codec::entries::entry_count;
 use rules::Received;
+use rules::limits::ENTRIES_MOST;
 use table_layout::CAPACITY;
 use table_layout::NEIGHBOURS_FROM;
 use table_layout::RECORDS;
@@ -15,11 +17,25 @@ use table_neighbours::has_row;
 use table_originators::find_record;
 use table_originators::hear_at;
 use table_originators::make_record;
+use wire::HEADER_SIZE;
 use wire::refusal;
-use wire::refusals::LINKS_FULL;
+use wire::refusals::ENTRIES_FULL;
 use wire::refusals::ORIGINATORS_FULL;
+ghost use mathlib.Core.Path.{_≡_};
+ghost use Prim.Native.Nat.{_≤_};
+ghost use lib.ListN.{length};
+ghost use Rattle.wire.specs.Layout.{headerSize};
+ghost use Rattle.wire.specs.Packet.{hna};
 ghost use Rattle.table_originators.specs.Originators.{Stands, Missing};
 ghost use Rattle.call_receive_arrival.specs.Receiving.{after, Leaves, Taken, Ruled, Decides, foreign};
+
+// The HNA octets of a packet.
+fn hna_of(packet: &[u8]) -> &[u8]
+    requires { ⌜ headerSize ≤ length (now packet) ⌝ }
+    ensures { λ r. ⌜ now r ≡ hna (now (packet .entry)) ⌝ }
+{
+    &packet[HEADER_SIZE..]
+}
 
 // A message of an originator without a record, whose place would be i: it is no duplicate, and the record that it makes has its link alone.
 fn first_heard(
@@ -39,8 +55,12 @@ fn first_heard(
     if cells[CAPACITY] <= cells[RECORDS] {
         return refused(refusal(ORIGINATORS_FULL));
     }
+    let hna = hna_of(packet);
+    if ENTRIES_MOST < entry_count(hna) as u64 {
+        return refused(refusal(ENTRIES_FULL));
+    }
     let ogm = m.ogm;
-    let route = make_record(cells, i, m.originator, ogm);
+    let route = make_record(cells, i, m.originator, ogm, hna);
     conclude(cells, packet, out, m, true, true, route)
 }
 
@@ -57,9 +77,9 @@ fn heard_again(
     ensures { λ r. ⌜ Leaves (now (cells .exit)) (now (out .exit)) r (after (now (cells .entry)) (now (packet .entry)) (now (out .entry)) m) ⌝ }
 {
     let ogm = m.ogm;
-    let heard = hear_at(cells, i, ogm, bidirectional);
+    let heard = hear_at(cells, i, ogm, hna_of(packet), bidirectional);
     match heard {
-        Heard::LinksFull => refused(refusal(LINKS_FULL)),
+        Heard::Refused(f) => refused(f),
         Heard::Counted(a) => {
             let best = a.best & a.fresh;
             let route = a.route;

@@ -5,7 +5,7 @@ use Prim.Native.Nat.{ℕ, zero, suc, _+_, _*_, _-_, _≤_, _<_}
 use native.Mathlib.Nat.{le-of-suc-le-suc, not-suc-le-zero, suc-add, suc-sub-suc, zero-add, suc-mul, sub-zero, zero-sub, zero-mul, mul-le-mul-right}
 use native.Mathlib.Omega.{arith}
 use lib.ListN.{length, take, drop, set, getD, length-append, length-drop}
-use lib.Seq.{take-append-add, drop-append-add, length-take-le, set-split, drop-cons, take-at, drop-at}
+use lib.Seq.{take-all, take-append-add, drop-append-add, length-take-le, set-split, drop-cons, take-at, drop-at}
 use Rattle.lists.proofs.Lists.{map-append}
 use Rattle.cells.specs.Area.{fit, zeros, flat, area, insertAt, written, putIn}
 
@@ -63,6 +63,10 @@ take-fit zero n l h k = refl
 take-fit (suc i) zero l h k = absurd (not-suc-le-zero h)
 take-fit (suc i) (suc n) [] h k = absurd (not-suc-le-zero k)
 take-fit (suc i) (suc n) (x ∷ l) h k = ap (λ (t : List ℕ). x ∷ t) (take-fit i n l (le-of-suc-le-suc h) (le-of-suc-le-suc k))
+
+-- cells enough, so only cut
+pub fit-take : (n : ℕ) (l : List ℕ) → n ≤ length l → fit n l ≡ take n l
+fit-take n l h = sym (take-all n (fit n l) (omega (arith, length-fit n l))) ∙ take-fit n n l (omega arith) h
 
 pub drop-zeros : (i n : ℕ) → drop i (zeros n) ≡ zeros (n - i)
 drop-zeros zero n = rw sub-zero

@@ -19,7 +19,7 @@ use Rattle.cells.proofs.Trips.{length-decoded}
 -- ---- zeros
 
 -- two words have no bit together exactly if neither has one
-no-bit : (a b : ℕ) → eqb (bitOr a b) 0 ≡ (eqb a 0 && eqb b 0)
+pub no-bit : (a b : ℕ) → eqb (bitOr a b) 0 ≡ (eqb a 0 && eqb b 0)
 no-bit zero b = rw (or-zero-l b)
 no-bit (suc a) b =
     ne-eqb (bitOr (suc a) b) 0 (omega (arith, or-add-and (suc a) b, and-le-r (suc a) b)) ∙ sym (ap (λ (t : Bool). t && eqb b 0) (ne-eqb (suc a) 0 (omega arith)))

@@ -72,7 +72,7 @@ are-zeros (x ∷ l) h =
     λ i. e i ∷ are-zeros l (and-right (eqb x 0) (allZero l) h) i
 
 -- cells whose rest is zero are their first m cells, filled up
-fit-rest : (m : ℕ) (c : List ℕ) → allZero (drop m c) ≡ true → fit (length c) (take m c) ≡ c
+pub fit-rest : (m : ℕ) (c : List ℕ) → allZero (drop m c) ≡ true → fit (length c) (take m c) ≡ c
 fit-rest zero c h = are-zeros c h
 fit-rest (suc m) [] h = refl
 fit-rest (suc m) (x ∷ c) h = ap (λ (l : List ℕ). x ∷ l) (fit-rest m c h)

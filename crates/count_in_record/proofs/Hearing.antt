@@ -2,24 +2,27 @@
 use mathlib.Core.Path.{_≡_, sym, ap, ap₂, _∙_, subst}
 use mathlib.Core.Bool.{Bool, true, false, cond, _&&_, _||_, not}
 use mathlib.Core.List.{List}
+use mathlib.Core.Option.{Option}
 use Prim.Native.Nat.{ℕ}
 use lib.Dec.{eqb}
-use lib.ListN.{length, getD}
-use borrow.Author.Tests.{leb-true}
+use lib.ListN.{getD}
+use Rattle.lists.specs.Lists.{maybe}
 use Rattle.lists.proofs.Tests.{and-right, both}
 use Rattle.window.specs.declared.Marks.{Marks}
 use Rattle.window.specs.Marks.{wordOf}
-use Rattle.rules.specs.declared.Ogm.{Ogm}
-use Rattle.rules.specs.Settings.{Config, linkMost}
+use Rattle.wire.specs.declared.Fault.{Fault}
+use Rattle.rules.specs.Messages.{Message}
+use Rattle.rules.specs.Settings.{Config}
 use Rattle.rules.specs.Table.{TableRecord, marksAt, nextRecord}
 use Rattle.table_record.specs.Record.{lastTtlAt, linksOf, encodeRecord, decodeRecord}
 use Rattle.table_record.proofs.Rows.{record-back}
 use Rattle.count_in_record.specs.declared.Answer.{Answer}
-use Rattle.count_in_record.specs.declared.Counting.the-variants.{Done, LinksFull}
+use Rattle.count_in_record.specs.declared.Counting.the-variants.{Done, Refused}
 use Rattle.count_in_record.specs.declared.Heard.the-variants as H
-use Rattle.count_in_record.specs.Counting.{hasRoom, CountedIn, isRepeated, isFreshIn, isCounted, Answered, HeardIn}
+use Rattle.count_in_record.proofs.Rows.{no-fault}
+use Rattle.count_in_record.specs.Counting.{faultOf, CountedIn, isRepeated, isFreshIn, isCounted, Answered, HeardIn}
 
-module _ (κ : Config) (m : Ogm) (b : Bool) (row : List ℕ) {duplicate : Bool} (ed : duplicate ≡ isRepeated κ m (decodeRecord row .1)) where
+module _ (κ : Config) (m : Message) (b : Bool) (row : List ℕ) {duplicate : Bool} (ed : duplicate ≡ isRepeated κ m (decodeRecord row .1)) where
   abbrev x : TableRecord
   x = decodeRecord row .1
 
@@ -34,30 +37,30 @@ module _ (κ : Config) (m : Ogm) (b : Bool) (row : List ℕ) {duplicate : Bool} 
   row-if taken = cond taken (encodeRecord (decodeRecord row .0, next)) row
 
   -- not counted
-  pub heard-kept : {a : Answer} → (b && not duplicate) ≡ false → Answered κ m x (not duplicate || eqb (m .ttl) (getD row lastTtlAt 0)) a → HeardIn κ m b row row (H.Uncounted a)
+  pub heard-kept : {a : Answer} → (b && not duplicate) ≡ false → Answered κ (m .link) x (not duplicate || eqb (m .ttl) (getD row lastTtlAt 0)) a → HeardIn κ m b row row (H.Uncounted a)
   unfolding decodeRecord
   heard-kept {a} t w =
-      record { answers = (counted-is t, subst (λ (d : Bool). Answered κ m x (not d || eqb (m .ttl) (x .lastTtl)) a) ed w); cells = sym (ap (λ (c : Bool). row-if (c && hasRoom next)) (counted-is t)) }
+      record { answers = (counted-is t, subst (λ (d : Bool). Answered κ (m .link) x (not d || eqb (m .ttl) (x .lastTtl)) a) ed w); cells = sym (ap (λ (c : Bool). row-if (c && maybe (faultOf κ next) true (λ f. false))) (counted-is t)) }
 
   -- counted
   module _ {after : List ℕ} (v : Marks) (w : CountedIn κ m row after (Done v)) where
     left : decodeRecord after .1 ≡ next
-    left = ap (λ (l : List ℕ). decodeRecord l .1) (w .1) ∙ ap (λ (p : ℕ × TableRecord). p .1) (record-back (decodeRecord row .0, next) (leb-true (length (next .links)) linkMost (w .0)))
+    left = ap (λ (l : List ℕ). decodeRecord l .1) (w .1) ∙ ap (λ (p : ℕ × TableRecord). p .1) (let few = no-fault κ next (w .0) in record-back (decodeRecord row .0, next) (few .0) (few .1))
 
     pub counted-marks : wordOf v ≡ marksAt (linksOf after) (m .link)
     unfolding decodeRecord
     counted-marks = w .2 ∙ sym (ap (λ (y : TableRecord). marksAt (y .links) (m .link)) left)
 
     -- and so no duplicate
-    pub heard-counted : {a : Answer} → (b && not duplicate) ≡ true → Answered κ m (decodeRecord after .1) true a → HeardIn κ m b row after (H.Counted a)
+    pub heard-counted : {a : Answer} → (b && not duplicate) ≡ true → Answered κ (m .link) (decodeRecord after .1) true a → HeardIn κ m b row after (H.Counted a)
     heard-counted {a} t g =
         let new : true ≡ isFreshIn κ m x = ap (λ (z : Bool). z || eqb (m .ttl) (x .lastTtl)) (sym (ap not (sym ed) ∙ and-right b (not duplicate) t)) in
-        let taken = both (counted-is t) (w .0) in
+        let taken = both (counted-is t) (ap (λ (o : Option Fault). maybe o true (λ f. false)) (w .0)) in
         record {
-          answers = (taken, subst (λ (f : Bool). Answered κ m next f a) new (subst (λ (y : TableRecord). Answered κ m y true a) left g));
+          answers = (taken, subst (λ (f : Bool). Answered κ (m .link) next f a) new (subst (λ (y : TableRecord). Answered κ (m .link) y true a) left g));
           cells = w .1 ∙ sym (ap row-if taken);
         }
 
-  -- refused for want of room
-  pub heard-full : {after : List ℕ} → (b && not duplicate) ≡ true → CountedIn κ m row after LinksFull → HeardIn κ m b row after H.LinksFull
-  heard-full t w = record { answers = (counted-is t, w .0); cells = w .1 ∙ sym (ap₂ (λ (c r : Bool). row-if (c && r)) (counted-is t) (w .0)) }
+  -- refused
+  pub heard-refused : {after : List ℕ} (f : Fault) → (b && not duplicate) ≡ true → CountedIn κ m row after (Refused f) → HeardIn κ m b row after (H.Refused f)
+  heard-refused f t w = record { answers = (counted-is t, w .0); cells = w .1 ∙ sym (ap₂ (λ (c : Bool) (o : Option Fault). row-if (c && maybe o true (λ g. false))) (counted-is t) (w .0)) }

@@ -3,73 +3,74 @@ use Prim.Native.Nat.{ℕ}
 use mathlib.Core.Path.{_≡_}
 use mathlib.Core.Bool.{Bool, true, false, cond, _&&_, _||_, not}
 use mathlib.Core.List.{List}
-use mathlib.Core.Option.{some}
-use lib.Dec.{leb, eqb}
-use lib.ListN.{length}
+use mathlib.Core.Option.{Option, none, some}
+use lib.Dec.{eqb}
+use Rattle.lists.specs.Lists.{maybe}
+use Rattle.wire.specs.declared.Fault.{Fault}
+use Rattle.wire.specs.Check.{firstOf}
 use Rattle.window.specs.Marks.{wordOf}
-use Rattle.rules.specs.declared.Ogm.{Ogm}
 use Rattle.rules.specs.declared.Route.{Route}
-use Rattle.rules.specs.Settings.{Config, linkMost}
-use Rattle.rules.specs.Rules.{sequenceOf, routeOf}
+use Rattle.rules.specs.Settings.{Config}
+use Rattle.rules.specs.Messages.{Message}
+use Rattle.rules.specs.Rules.{sequenceOf, countedFaults, routeOf}
 use Rattle.rules.specs.Table.{TableRecord, table, marksAt, firstRecord, nextRecord, isMarked}
 use Rattle.table_record.specs.Record.{encodeRecord, decodeRecord}
 use Rattle.count_in_record.specs.declared.Counting.{Counting}
-use Rattle.count_in_record.specs.declared.Counting.the-variants.{Done, LinksFull}
+use Rattle.count_in_record.specs.declared.Counting.the-variants.{Done, Refused}
 use Rattle.count_in_record.specs.declared.Answer.{Answer}
 use Rattle.count_in_record.specs.declared.Heard.{Heard}
 use Rattle.count_in_record.specs.declared.Heard.the-variants as H
 
 -- ---- counting
 
--- no more links are held than there is room for
-abbrev pub hasRoom : TableRecord → Bool
-hasRoom y = leb (length (y .links)) linkMost
+-- what is refused of a record after counting: 11 or 15, if anything
+abbrev pub faultOf : Config → TableRecord → Option Fault
+faultOf κ y = firstOf (countedFaults table κ y)
 
--- the message is counted and the row is that of the next record, in which its link has these marks; or, exactly where more than 8 links would have marks
--- or be best, nothing changes
-abbrev pub CountedIn : Config → Ogm → (before after : List ℕ) → Counting → Type 0
+-- the message is counted and the row is that of the next record, in which its link has these marks; or, exactly where that record is refused, nothing changes
+abbrev pub CountedIn : Config → Message → (before after : List ℕ) → Counting → Type 0
 CountedIn κ m before after (Done marks) =
-    (hasRoom (nextRecord κ m (decodeRecord before .1)) ≡ true)
+    (faultOf κ (nextRecord κ m (decodeRecord before .1)) ≡ none)
     × (after ≡ encodeRecord (decodeRecord before .0, nextRecord κ m (decodeRecord before .1)))
     × (wordOf marks ≡ marksAt (nextRecord κ m (decodeRecord before .1) .links) (m .link))
-CountedIn κ m before after LinksFull = (hasRoom (nextRecord κ m (decodeRecord before .1)) ≡ false) × (after ≡ before)
+CountedIn κ m before after (Refused f) = (faultOf κ (nextRecord κ m (decodeRecord before .1)) ≡ some f) × (after ≡ before)
 
 -- the first counted message makes the record: the row of its cells, and its route
-pub record FirstIn (κ : Config) (m : Ogm) (address : ℕ) (after : List ℕ) (r : Route) : Type 0 where
+pub record FirstIn (κ : Config) (m : Message) (address : ℕ) (after : List ℕ) (r : Route) : Type 0 where
   pub cells : after ≡ encodeRecord (address, firstRecord κ m)
   pub route : r ≡ routeOf table κ (some (firstRecord κ m))
 
 -- ---- a message that came to the record x
 
 -- it is a duplicate
-abbrev pub isRepeated : Config → Ogm → (x : TableRecord) → Bool
+abbrev pub isRepeated : Config → Message → (x : TableRecord) → Bool
 isRepeated κ m x = isMarked κ x (m .link) (sequenceOf m)
 
 -- it is no duplicate, or has the last TTL
-abbrev pub isFreshIn : Config → Ogm → (x : TableRecord) → Bool
+abbrev pub isFreshIn : Config → Message → (x : TableRecord) → Bool
 isFreshIn κ m x = not (isRepeated κ m x) || eqb (m .ttl) (x .lastTtl)
 
 -- it is counted
-abbrev pub isCounted : Config → Ogm → (bidirectional : Bool) → (x : TableRecord) → Bool
+abbrev pub isCounted : Config → Message → (bidirectional : Bool) → (x : TableRecord) → Bool
 isCounted κ m b x = b && not (isRepeated κ m x)
 
--- the next record takes the place of x
-abbrev pub isTaken : Config → Ogm → (bidirectional : Bool) → (x : TableRecord) → Bool
-isTaken κ m b x = isCounted κ m b x && hasRoom (nextRecord κ m x)
+-- the next record takes the place of x, unless it is refused
+abbrev pub isTaken : Config → Message → (bidirectional : Bool) → (x : TableRecord) → Bool
+isTaken κ m b x = isCounted κ m b x && maybe (faultOf κ (nextRecord κ m x)) true (λ f. false)
 
--- the answer a by the record y that is left, where the message is fresh or not
-pub record Answered (κ : Config) (m : Ogm) (y : TableRecord) (new : Bool) (a : Answer) : Type 0 where
+-- the answer a by the record y that is left, where the message came by link l and is fresh or not
+pub record Answered (κ : Config) (l : ℕ) (y : TableRecord) (new : Bool) (a : Answer) : Type 0 where
   pub fresh : a .fresh ≡ new
-  pub best : a .best ≡ table .isBest κ y (m .link)
+  pub best : a .best ≡ table .isBest κ y l
   pub route : a .route ≡ routeOf table κ (some y)
 
 -- what becomes of it: counted, not counted, or refused. It is fresh by x, best and route are by what is left
-abbrev pub Answers : Config → Ogm → (bidirectional : Bool) → (x : TableRecord) → Heard → Type 0
-Answers κ m b x (H.Counted a) = (isTaken κ m b x ≡ true) × Answered κ m (nextRecord κ m x) (isFreshIn κ m x) a
-Answers κ m b x (H.Uncounted a) = (isCounted κ m b x ≡ false) × Answered κ m x (isFreshIn κ m x) a
-Answers κ m b x H.LinksFull = (isCounted κ m b x ≡ true) × (hasRoom (nextRecord κ m x) ≡ false)
+abbrev pub Answers : Config → Message → (bidirectional : Bool) → (x : TableRecord) → Heard → Type 0
+Answers κ m b x (H.Counted a) = (isTaken κ m b x ≡ true) × Answered κ (m .link) (nextRecord κ m x) (isFreshIn κ m x) a
+Answers κ m b x (H.Uncounted a) = (isCounted κ m b x ≡ false) × Answered κ (m .link) x (isFreshIn κ m x) a
+Answers κ m b x (H.Refused f) = (isCounted κ m b x ≡ true) × (faultOf κ (nextRecord κ m x) ≡ some f)
 
 -- and the row of its cells is that of what is left
-pub record HeardIn (κ : Config) (m : Ogm) (bidirectional : Bool) (before after : List ℕ) (r : Heard) : Type 0 where
+pub record HeardIn (κ : Config) (m : Message) (bidirectional : Bool) (before after : List ℕ) (r : Heard) : Type 0 where
   pub answers : Answers κ m bidirectional (decodeRecord before .1) r
   pub cells : after ≡ cond (isTaken κ m bidirectional (decodeRecord before .1)) (encodeRecord (decodeRecord before .0, nextRecord κ m (decodeRecord before .1))) before

@@ -1,13 +1,16 @@
 // What a message does to its originator's record, in the record's row of cells: it is counted or not, and then answered.
 use cells_moves::fill;
 use count_best_link::Step;
+use count_entries::keep_entries;
 use count_links::Left;
 use count_links::Spot;
 use count_links::locate;
 use count_links::recount;
+use packet_codec::entries::entry_count;
 use rules::Ogm;
 use rules::Policy;
 use rules::Route;
+use rules::limits::ENTRIES_MOST;
 use rules::limits::LINKS_MOST;
 use table_record::ADDRESS;
 use table_record::BEST;
@@ -17,6 +20,7 @@ use table_record::LAST_TTL;
 use table_record::LINK;
 use table_record::LINKS;
 use table_record::LINKS_CELLS;
+use table_record::LINKS_END;
 use table_record::TIME;
 use table_record::links_part;
 use table_record::put_link;
@@ -29,28 +33,36 @@ use window::inside;
 use window::is_marked;
 use window::mark;
 use window::no_marks;
+use wire::Fault;
+use wire::refusal;
+use wire::refusals::ENTRIES_FULL;
+use wire::refusals::LINKS_FULL;
 ghost use mathlib.Core.Path.{_≡_};
-ghost use mathlib.Core.Bool.{true};
-ghost use mathlib.Core.List.{_∷_};
-ghost use Prim.Native.Nat.{_*_, _≤_};
+ghost use mathlib.Core.Bool.{true, cond};
+ghost use mathlib.Core.List.{_∷_, _++_};
+ghost use Prim.Native.Nat.{_*_, _%_, _≤_};
+ghost use lib.Dec.{ltb};
 ghost use lib.ListN.{length, getD};
 ghost use Rattle.cells.specs.Area.{fit};
+ghost use Rattle.wire.specs.Check.{entries};
+ghost use Rattle.wire.specs.Entries.{entriesOf};
+ghost use Rattle.window.specs.Window.{numbers};
 ghost use Rattle.window.specs.Marks.{wordOf};
-ghost use Rattle.rules.specs.Settings.{Config, Follows, Bounded, isAddress, linkMost, linkCells, recordCells};
+ghost use Rattle.rules.specs.Settings.{Config, Follows, Bounded, isAddress, linkMost, entryMost, linkCells, entryAreaCells, recordCells};
 ghost use Rattle.rules.specs.Calls.{neighbourOf};
-ghost use Rattle.rules.specs.Rules.{sequenceOf};
+ghost use Rattle.rules.specs.Messages.{messageOf};
 ghost use Rattle.rules.specs.Table.{marksAt, isMarked};
-ghost use Rattle.table_record.specs.Record.{addressAt, linksOf, decodeRecord, Held};
+ghost use Rattle.table_record.specs.Record.{addressAt, entriesAt, entriesPart, linksOf, decodeRecord, Held};
 ghost use Rattle.count_links.specs.Links.{SpotOf};
 ghost use Rattle.count_in_record.specs.Counting.{CountedIn, FirstIn, Answered, HeardIn};
 
 // Room for one link more: the ninth is there only until it is known whether another gives up its place.
 const SCRATCH: usize = LINKS_CELLS + LINK;
 
-// How counting ends: done, the message's link having these marks, or refused since more links than there is room for would have marks or be best.
+// How counting ends: done, the message's link having these marks, or refused.
 pub enum Counting {
     Done(Marks),
-    LinksFull,
+    Refused(Fault),
 }
 
 // What is answered of a message: whether it was no duplicate or had the last TTL, whether its link is best, and the route of its originator.
@@ -64,27 +76,54 @@ pub struct Answer {
 pub enum Heard {
     Counted(Answer),
     Uncounted(Answer),
-    LinksFull,
+    Refused(Fault),
 }
 
-// Writes a record's cells after its address: the window's current number, the message that was counted, the links, and zeros behind them.
+// Writes a record's cells after its address: the window's current number, the message that was counted, the links, and zeros behind them. The entries
+// are not touched.
 fn store(row: &mut [u64], current: u16, m: Ogm, left: Left, links: &[u64])
     requires { ⌜ (length (now row) ≡ recordCells) × (length (now links) ≤ linkMost * linkCells) ⌝ }
-    ensures { λ _. ⌜ now (row .exit) ≡ getD (now (row .entry)) addressAt 0 ∷ current ∷ m .time ∷ m .ttl ∷ left .links ∷ left .best ∷ fit (linkMost * linkCells) (now (links .entry)) ⌝ }
+    ensures { λ _. ⌜ now (row .exit) ≡ getD (now (row .entry)) addressAt 0 ∷ current ∷ m .time ∷ m .ttl ∷ left .links ∷ left .best ∷ getD (now (row .entry)) entriesAt 0 ∷ (fit (linkMost * linkCells) (now (links .entry)) ++ entriesPart (now (row .entry))) ⌝ }
 {
     row[CURRENT] = current as u64;
     row[TIME] = m.time;
     row[LAST_TTL] = m.ttl as u64;
     row[LINKS] = left.links as u64;
     row[BEST] = left.best;
-    fill(&mut row[FIELDS..], links);
+    fill(&mut row[FIELDS..LINKS_END], links);
 }
 
-// Counts a message whose link stands at this spot. Nothing changes where the links are full: they are written to a scratch first, and to the row
-// once it is known that they fit.
-fn count_message(row: &mut [u64], p: Policy, m: Ogm, spot: Spot) -> Counting
+// And, where they replace those that are kept, the message's entries.
+fn store_message(
+    row: &mut [u64],
+    current: u16,
+    m: Ogm,
+    hna: &[u8],
+    replaced: bool,
+    left: Left,
+    links: &[u64],
+)
+    requires { ⌜ (length (now row) ≡ recordCells) × (length (now links) ≤ linkMost * linkCells) × (replaced ≡ true → entries (now hna) ≤ entryMost) ⌝ }
+    ensures { λ _. ⌜ now (row .exit) ≡ getD (now (row .entry)) addressAt 0 ∷ current ∷ m .time ∷ m .ttl ∷ left .links ∷ left .best ∷ cond replaced (entries (now (hna .entry))) (getD (now (row .entry)) entriesAt 0) ∷ (fit (linkMost * linkCells) (now (links .entry)) ++ cond replaced (fit entryAreaCells (entriesOf (now (hna .entry)))) (entriesPart (now (row .entry)))) ⌝ }
+{
+    store(row, current, m, left, links);
+    if replaced {
+        keep_entries(row, hna);
+    }
+}
+
+// Whether a record may not keep so many entries.
+fn too_many(hna: &[u8]) -> bool
+    ensures { λ r. ⌜ r ≡ ltb entryMost (entries (now (hna .entry))) ⌝ }
+{
+    ENTRIES_MOST < entry_count(hna) as u64
+}
+
+// Counts a message whose link stands at this spot. Nothing changes where it is refused: the links are written to a scratch first, and to the row
+// once it is known that they and the entries fit.
+fn count_message(row: &mut [u64], p: Policy, m: Ogm, hna: &[u8], spot: Spot) -> Counting
     requires { ⌜ Held (now row) × Bounded p × SpotOf (linksOf (now row)) (m .link) spot ⌝ }
-    ensures { λ r. ⌜ ((κ : Config) → Follows κ p → CountedIn κ m (now (row .entry)) (now (row .exit)) r) ⌝ }
+    ensures { λ r. ⌜ ((κ : Config) → Follows κ p → CountedIn κ (messageOf m (now (hna .entry))) (now (row .entry)) (now (row .exit)) r) ⌝ }
 {
     let current = row[CURRENT] as u16;
     let n = row[LINKS] as usize;
@@ -99,18 +138,22 @@ fn count_message(row: &mut [u64], p: Policy, m: Ogm, spot: Spot) -> Counting
     let mut out = [0u64; SCRATCH];
     let left = recount(&mut out, links_part(row), n, spot, step, m.link, row[BEST]);
     if LINKS_MOST < left.links as u64 {
-        return Counting::LinksFull;
+        return Counting::Refused(refusal(LINKS_FULL));
+    }
+    let replaced = !inside(p.window, current, m.sequence);
+    if replaced & too_many(hna) {
+        return Counting::Refused(refusal(ENTRIES_FULL));
     }
     let end = left.links * LINK;
-    store(row, next, m, left, &out[..end]);
+    store_message(row, next, m, hna, replaced, left, &out[..end]);
     let marks = left.marks;
     Counting::Done(marks)
 }
 
 // Writes the record that the first counted message makes, whatever the row held, and answers its route: its only link is best.
-pub fn first_record(row: &mut [u64], address: u64, p: Policy, m: Ogm) -> Route
-    requires { ⌜ (length (now row) ≡ recordCells) × Bounded p × (isAddress (neighbourOf (m .link)) ≡ true) ⌝ }
-    ensures { λ r. ⌜ ((κ : Config) → Follows κ p → FirstIn κ m address (now (row .exit)) r) ⌝ }
+pub fn first_record(row: &mut [u64], address: u64, p: Policy, m: Ogm, hna: &[u8]) -> Route
+    requires { ⌜ (length (now row) ≡ recordCells) × Bounded p × (isAddress (neighbourOf (m .link)) ≡ true) × (entries (now hna) ≤ entryMost) ⌝ }
+    ensures { λ r. ⌜ ((κ : Config) → Follows κ p → FirstIn κ (messageOf m (now (hna .entry))) address (now (row .exit)) r) ⌝ }
 {
     let marks = mark(no_marks(), 0);
     let mut links = [0u64; LINK];
@@ -121,14 +164,14 @@ pub fn first_record(row: &mut [u64], address: u64, p: Policy, m: Ogm) -> Route
         best: m.link,
         marks,
     };
-    store(row, m.sequence, m, left, &links);
+    store_message(row, m.sequence, m, hna, true, left, &links);
     route_by(m.link, marks, p.window as u32)
 }
 
 // Whether the message's number is inside the window and already marked on its link, which has these marks.
 fn is_duplicate(row: &[u64], p: Policy, m: Ogm, marks: Marks) -> bool
     requires { ⌜ Held (now row) × Bounded p × (wordOf marks ≡ marksAt (linksOf (now row)) (m .link)) ⌝ }
-    ensures { λ r. ⌜ ((κ : Config) → Follows κ p → r ≡ isMarked κ (decodeRecord (now (row .entry)) .1) (m .link) (sequenceOf m)) ⌝ }
+    ensures { λ r. ⌜ ((κ : Config) → Follows κ p → r ≡ isMarked κ (decodeRecord (now (row .entry)) .1) (m .link) (m .sequence % numbers)) ⌝ }
 {
     let current = row[CURRENT] as u16;
     if !inside(p.window, current, m.sequence) {
@@ -140,7 +183,7 @@ fn is_duplicate(row: &[u64], p: Policy, m: Ogm, marks: Marks) -> bool
 // The answer to a message, by the row as it is left.
 fn answer_of(row: &[u64], p: Policy, m: Ogm, fresh: bool) -> Answer
     requires { ⌜ Held (now row) × Bounded p ⌝ }
-    ensures { λ r. ⌜ ((κ : Config) → Follows κ p → Answered κ m (decodeRecord (now (row .entry)) .1) fresh r) ⌝ }
+    ensures { λ r. ⌜ ((κ : Config) → Follows κ p → Answered κ (m .link) (decodeRecord (now (row .entry)) .1) fresh r) ⌝ }
 {
     let best = row[BEST] == m.link;
     let route = route_of(row, p.window as u32);
@@ -150,7 +193,7 @@ fn answer_of(row: &[u64], p: Policy, m: Ogm, fresh: bool) -> Answer
 // The answer to a message that was counted, by the row as it is left, where its link has these marks: they give the route where that link is best.
 fn answer_counted(row: &[u64], p: Policy, m: Ogm, marks: Marks) -> Answer
     requires { ⌜ Held (now row) × Bounded p × (wordOf marks ≡ marksAt (linksOf (now row)) (m .link)) ⌝ }
-    ensures { λ r. ⌜ ((κ : Config) → Follows κ p → Answered κ m (decodeRecord (now (row .entry)) .1) true r) ⌝ }
+    ensures { λ r. ⌜ ((κ : Config) → Follows κ p → Answered κ (m .link) (decodeRecord (now (row .entry)) .1) true r) ⌝ }
 {
     let best = row[BEST];
     if best != m.link {
@@ -166,9 +209,9 @@ fn answer_counted(row: &[u64], p: Policy, m: Ogm, marks: Marks) -> Answer
 
 // What a message does to its originator's record: a message that comes by a bidirectional link and is no duplicate is counted. Duplicate and last TTL
 // are judged before counting, best and route after it. What is counted is no duplicate, so its TTL is not asked for.
-pub fn hear(row: &mut [u64], p: Policy, m: Ogm, bidirectional: bool) -> Heard
+pub fn hear(row: &mut [u64], p: Policy, m: Ogm, hna: &[u8], bidirectional: bool) -> Heard
     requires { ⌜ Held (now row) × Bounded p × (isAddress (neighbourOf (m .link)) ≡ true) ⌝ }
-    ensures { λ r. ⌜ ((κ : Config) → Follows κ p → HeardIn κ m bidirectional (now (row .entry)) (now (row .exit)) r) ⌝ }
+    ensures { λ r. ⌜ ((κ : Config) → Follows κ p → HeardIn κ (messageOf m (now (hna .entry))) bidirectional (now (row .entry)) (now (row .exit)) r) ⌝ }
 {
     let spot = locate(links_part(row), row[LINKS] as usize, m.link);
     let marks = spot.marks;
@@ -177,9 +220,9 @@ pub fn hear(row: &mut [u64], p: Policy, m: Ogm, bidirectional: bool) -> Heard
         let fresh = !duplicate | (m.ttl as u64 == row[LAST_TTL]);
         return Heard::Uncounted(answer_of(row, p, m, fresh));
     }
-    let counting = count_message(row, p, m, spot);
+    let counting = count_message(row, p, m, hna, spot);
     match counting {
-        Counting::LinksFull => Heard::LinksFull,
+        Counting::Refused(f) => Heard::Refused(f),
         Counting::Done(marks) => Heard::Counted(answer_counted(row, p, m, marks)),
     }
 }

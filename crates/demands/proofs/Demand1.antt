@@ -13,7 +13,7 @@ use Rattle.lists.proofs.Tests.{both}
 use Rattle.wire.specs.declared.Fault.{Fault}
 use Rattle.wire.specs.Check.{numbered, given, firstOf}
 use Rattle.rules.specs.Settings.{MakeArgs, makeAllowed}
-use Rattle.rules.specs.Calls.{Call, make, receive, burst, own, sweep, question, list, numberOf, isRefusal, isRuleRefusal, refusalMost, refusal}
+use Rattle.rules.specs.Calls.{Call, make, receive, burst, own, sweep, question, list, locate, numberOf, isRefusal, isRuleRefusal, refusalMost, refusal}
 use Rattle.rules.specs.Rules.{OutcomeOf}
 use Rattle.rules.specs.Table.{table}
 use Rattle.rules.specs.Refusals.{facts, Exactly}
@@ -42,6 +42,7 @@ leaves (own a) f = record { number = refl; output = refl; rows = refl; answers =
 leaves (sweep t) f = record { number = refl; output = refl; rows = refl; answers = refl }
 leaves (question o) f = record { number = refl; output = refl; rows = refl; answers = refl }
 leaves (list o rs) f = record { number = refl; output = refl; rows = refl; answers = refl }
+leaves (locate a) f = record { number = refl; output = refl; rows = refl; answers = refl }
 
 -- a refusal of the rules is a refusal
 rule-refusal : (n : ℕ) → isRuleRefusal n ≡ true → isRefusal n ≡ true
@@ -125,3 +126,4 @@ demand1 c (own a) = of-other c (own a) refl (wellFormed c) refl
 demand1 c (sweep t) = of-other c (sweep t) refl (wellFormed c) refl
 demand1 c (question o) = of-other c (question o) refl (wellFormed c) refl
 demand1 c (list o rs) = of-other c (list o rs) refl (wellFormed c) refl
+demand1 c (locate a) = of-other c (locate a) refl (wellFormed c) refl

@@ -11,8 +11,8 @@ use Rattle.lists.specs.Lists.{keep, all}
 use Rattle.lists.proofs.Tests.{and-at, and-left, and-right}
 use Rattle.wire.specs.Check.{numbered, given, firstOf}
 use Rattle.rules.specs.Settings.{Config, MakeArgs, configOf, cellsNeeded, makeTests, makeAllowed}
-use Rattle.rules.specs.Calls.{ReceiveArgs, packetsOf, singleCall, Call, make, receive, burst, own, sweep, question, list, Reply, numberOf, made, answered}
-use Rattle.rules.specs.Rules.{OutcomeOf, unless, refuse, begin, fresh, receiveOn, takeBurst, send, purge, answerBest, fillRows, step}
+use Rattle.rules.specs.Calls.{ReceiveArgs, packetsOf, singleCall, Call, make, receive, burst, own, sweep, question, list, locate, Reply, numberOf, made, answered}
+use Rattle.rules.specs.Rules.{OutcomeOf, unless, refuse, begin, fresh, receiveOn, takeBurst, send, purge, answerBest, fillRows, answerLocate, step}
 use Rattle.rules.specs.Table.{TableState, table}
 use Rattle.rules.specs.Refusals.{facts, outcome}
 use Rattle.rules.specs.WellFormed.{typed}
@@ -55,6 +55,7 @@ by-rules c w (own a) = goes-on c (own a) w
 by-rules c w (sweep t) = goes-on c (sweep t) w
 by-rules c w (question o) = goes-on c (question o) w
 by-rules c w (list o rs) = goes-on c (list o rs) w
+by-rules c w (locate a) = goes-on c (locate a) w
 
 -- a call leaves a table for as many cells
 abbrev Fills : (cells : ℕ) → TableState → Type 0
@@ -69,7 +70,7 @@ unfolding step outcome
 one-fills cells s p r = step-keeps table 0 (Fills cells) s (receive r) p (λ n. p)
 
 taken-fills : (cells : ℕ) (s : TableState) → Fills cells s → (call : Call) → firstOf (facts table cells s call) ≡ none → Fills cells (outcome table cells s call .state)
-unfolding facts outcome takeBurst send purge answerBest fillRows
+unfolding facts outcome takeBurst send purge answerBest fillRows answerLocate
 taken-fills cells s p (make a) n = made-fills cells a (not-false (makeAllowed cells a) (not-given (not (makeAllowed cells a)) 12 (none-at (facts table cells s (make a)) n 0)))
 taken-fills cells s p (receive r) n = p
 taken-fills cells s p (burst a) n = each-keeps _ (Fills cells) (a .time) (λ _. true) (λ x o q h y. one-fills cells x y (singleCall (a .time) o q)) (packetsOf a) (all-true (λ _. true) (λ _. refl) (packetsOf a)) s (a .output) p
@@ -77,6 +78,7 @@ taken-fills cells s p (own a) n = p
 taken-fills cells s p (sweep t) n = p
 taken-fills cells s p (question o) n = p
 taken-fills cells s p (list o rs) n = p
+taken-fills cells s p (locate a) n = p
 
 -- ---- cells that hold the table s
 

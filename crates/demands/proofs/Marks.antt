@@ -19,9 +19,9 @@ use Rattle.window.specs.Window.{numbers, distance, inside, advance, marked, shi
 use Rattle.window.proofs.Numbers.{distance-self}
 use Rattle.window.proofs.Window.{laws}
 use Rattle.rules.specs.Settings.{Config}
-use Rattle.rules.specs.declared.Ogm.{Ogm}
+use Rattle.rules.specs.Messages.{Message}
 use Rattle.rules.specs.Rules.{sequenceOf}
-use Rattle.rules.specs.Table.{TableRecord, marksAt, markOn, begun, moveTo, firstRecord, nextRecord, isMarked}
+use Rattle.rules.specs.Table.{TableRecord, marksAt, markOn, begun, moveTo, withEntries, entriesThen, firstRecord, nextRecord, isMarked}
 use Rattle.rules.specs.WellFormed.{linkTests}
 use Rattle.rules.proofs.Counting.{sequence-lt, advance-lt}
 
@@ -51,7 +51,7 @@ turned f ls l c n h = go (lookup l ls) (ap (λ (o : Option ℕ). marked (maybe o
 
 -- ---- one message
 
-module _ (κ : Config) (m : Ogm) where
+module _ (κ : Config) (m : Message) where
   abbrev W : ℕ
   W = κ .settings .window
 
@@ -133,12 +133,12 @@ module _ (κ : Config) (m : Ogm) where
 
     pub next-marks : (b : ℕ) (x : TableRecord) → x .current < numbers → Rising (x .links) → all (λ e. and (linkTests κ b e)) (x .links) ≡ true
         → isMarked κ (nextRecord κ m x) l n ≡ true → Own l n ⊎ (isMarked κ x l n ≡ true)
-    unfolding nextRecord
+    unfolding nextRecord isMarked
     next-marks b x hc r each h =
         let k = advance W (x .current) (sequenceOf m) in
         ⊎-elim (λ (o : Own l n). inl o)
         (λ (g : isMarked κ (moveTo κ k x) l n ≡ true). inr (moved-up x l n hc hn (small (lookup l (x .links)) refl) g))
-        (marked-on (moveTo κ k x) l n (advance-lt W (x .current) (sequenceOf m) hc (sequence-lt m)) hn (rising-mapValues (shift W (distance k (x .current))) (x .links) r) h)
+        (marked-on (withEntries (entriesThen κ m x) (moveTo κ k x)) l n (advance-lt W (x .current) (sequenceOf m) hc (sequence-lt m)) hn (rising-mapValues (shift W (distance k (x .current))) (x .links) r) h)
       where
         small : (o : Option ℕ) → lookup l (x .links) ≡ o → maybe o 0 (λ v. v) < 2 ^ W
         small none e = pow-pos W

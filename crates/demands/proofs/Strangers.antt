@@ -1,9 +1,9 @@
 -- What any received packet leaves as it was: by the flat reading of the rules for a table, and so for the cells that hold it. Assumes nothing.
 use Prim.Native.Nat.{ℕ, _+_, _%_, _<_}
 use mathlib.Core.Path.{_≡_, refl, sym, ap, _∙_, subst}
-use mathlib.Core.Logic.{⊎-elim}
-use mathlib.Core.Bool.{Bool, true, false, _&&_, not, true≢false}
-use mathlib.Core.Option.{Option, none, some}
+use mathlib.Core.Logic.{_⊎_, inl, inr, ⊎-elim}
+use mathlib.Core.Bool.{Bool, true, false, cond, _&&_, not, true≢false}
+use mathlib.Core.Option.{Option, none, some, Option·map}
 use mathlib.Core.List.{List}
 use lib.Dec.{eqb}
 use lib.ListN.{length, set, getD}
@@ -12,18 +12,18 @@ use native.Mathlib.Omega.{arith}
 use native.Mathlib.Nat.{mod-eq-of-lt}
 use borrow.Author.Tests.{ltb-true, eqb-true, eqb-false, ne-eqb, not-true}
 use Rattle.lists.specs.Lists.{maybe, and}
-use Rattle.lists.specs.Keyed.{lookup}
+use Rattle.lists.specs.Keyed.{lookup, put}
 use Rattle.lists.proofs.Tests.{by-test, and-left, and-right, and-at, all-at}
 use Rattle.lists.proofs.Keyed.{lookup-put, lookup-put-other, lookup-all}
 use Rattle.lists.proofs.Rising.{rising-in}
-use Rattle.window.specs.Window.{numbers}
+use Rattle.window.specs.Window.{numbers, inside}
 use Rattle.wire.specs.declared.Header.{Header}
 use Rattle.wire.specs.declared.Fault.{Fault}
 use Rattle.wire.specs.Layout.{sequenceAt}
 use Rattle.wire.specs.Packet.{octet, header}
 use Rattle.wire.specs.Check.{firstOf}
 use Rattle.rules.specs.Settings.{Config, octets, isOctet}
-use Rattle.rules.specs.declared.Ogm.{Ogm}
+use Rattle.rules.specs.Messages.{Message}
 use Rattle.rules.specs.Calls.{ReceiveArgs, receive, numberOf, isRefusal}
 use Rattle.rules.specs.Rules.{OutcomeOf, linkBy, message, withTime, step}
 use Rattle.rules.specs.Table.{TableRecord, TableState, firstRecord, nextRecord, isMarked, recordEcho, table}
@@ -46,6 +46,12 @@ use Rattle.demands.proofs.Marks.{Own, first-marks, next-marks}
 abbrev markedOf : TableState → (o l n : ℕ) → Bool
 markedOf s o l n = maybe (lookup o (s .records)) false (λ x. isMarked (s .config) x l n)
 
+abbrev insideOf : TableState → (o n : ℕ) → Bool
+insideOf s o n = maybe (lookup o (s .records)) false (λ x. inside (s .config .settings .window) (x .current) n)
+
+abbrev entriesOfRecord : Option TableRecord → Option (List ℕ)
+entriesOfRecord o = Option·map (λ x. x .entries) o
+
 -- a packet that is not refused: it leaves x
 module _ (s : TableState) (w : Wf s) (r : ReceiveArgs) (t : typed (receive r) ≡ true) where
   abbrev h : Header
@@ -57,7 +63,7 @@ module _ (s : TableState) (w : Wf s) (r : ReceiveArgs) (t : typed (receive r) �
   abbrev q : Questions
   q = questions table s r h
 
-  abbrev m : Ogm
+  abbrev m : Message
   m = message r h
 
   abbrev x : TableState
@@ -167,6 +173,47 @@ module _ (s : TableState) (w : Wf s) (r : ReceiveArgs) (t : typed (receive r) �
           ap (λ k. markedOf s k l n) same ∙ its-marks l n hn (λ y. f (same, y .0, y .1)) (ap (λ k. markedOf x k l n) (sym same) ∙ g)
       go false e = ap (λ (y : Option TableRecord). maybe y false (λ a. isMarked κ a l n)) (sym (others-same o (eqb-false o (h .originator) e))) ∙ g
 
+  -- ---- entries
+
+  -- of a counted message's record, o being the one before
+  counted-kept : (o : Option TableRecord) → maybe o false (λ a. inside (κ .settings .window) (a .current) (h .sequence)) ≡ true
+      → some (maybe o (firstRecord κ m) (nextRecord κ m) .entries) ≡ entriesOfRecord o
+  unfolding nextRecord
+  counted-kept none g = absurd (true≢false (sym g))
+  counted-kept (some a) g = ap (λ (t : Bool). some (cond t (a .entries) (m .entries))) (ap (inside (κ .settings .window) (a .current)) same-number ∙ g)
+
+  counted-entries : (o : Option TableRecord)
+      → (some (maybe o (firstRecord κ m) (nextRecord κ m) .entries) ≡ entriesOfRecord o) ⊎ (some (maybe o (firstRecord κ m) (nextRecord κ m) .entries) ≡ some (m .entries))
+  unfolding firstRecord nextRecord
+  counted-entries none = inr refl
+  counted-entries (some a) = by-test (λ es. (some es ≡ some (a .entries)) ⊎ (some es ≡ some (m .entries))) (inside (κ .settings .window) (a .current) (h .sequence % numbers)) (λ _. inl refl) (λ _. inr refl)
+
+  -- the originator's, where the message is counted
+  put-entries : entriesOfRecord (lookup (h .originator) (put (h .originator) (countedRecord table s r h) (s .records))) ≡ some (countedRecord table s r h .entries)
+  put-entries = ap entriesOfRecord (lookup-put (h .originator) (countedRecord table s r h) (s .records))
+
+  entries-kept : insideOf s (h .originator) (h .sequence) ≡ true → entriesOfRecord (lookup (h .originator) (x .records)) ≡ entriesOfRecord (lookup (h .originator) (s .records))
+  entries-kept g =
+      by-test (λ y. entriesOfRecord (lookup (h .originator) y) ≡ entriesOfRecord (lookup (h .originator) (s .records))) (wouldCount table s r h q)
+      (λ _. put-entries ∙ counted-kept (found table s r h) g) (λ _. refl)
+
+  -- what an originator's entries among the records es are: as they were, or the packet's own
+  abbrev OwnOrKept : (o : ℕ) → List (ℕ × TableRecord) → Type 0
+  OwnOrKept o es = (entriesOfRecord (lookup o es) ≡ entriesOfRecord (lookup o (s .records))) ⊎ ((o ≡ h .originator) × (entriesOfRecord (lookup o es) ≡ some (m .entries)))
+
+  entries-its : OwnOrKept (h .originator) (x .records)
+  entries-its =
+      by-test (OwnOrKept (h .originator)) (wouldCount table s r h q)
+      (λ _. ⊎-elim (λ (y : some (countedRecord table s r h .entries) ≡ entriesOfRecord (found table s r h)). inl (put-entries ∙ y)) (λ (y : some (countedRecord table s r h .entries) ≡ some (m .entries)). inr (refl, put-entries ∙ y)) (counted-entries (found table s r h)))
+      (λ _. inl refl)
+
+  entries-own : (o : ℕ) → OwnOrKept o (x .records)
+  entries-own o = go (eqb o (h .originator)) refl
+    where
+      go : (b : Bool) → eqb o (h .originator) ≡ b → OwnOrKept o (x .records)
+      go true e = subst (λ k. OwnOrKept k (x .records)) (sym (eqb-true o (h .originator) e)) entries-its
+      go false e = inl (ap entriesOfRecord (others-same o (eqb-false o (h .originator) e)))
+
 -- ---- of cells
 
 time-set : (s : TableState) (u : ℕ) → encode (withTime table s u) ≡ set (encode s) timeAt u
@@ -190,6 +237,8 @@ module _ (c : List ℕ) (r : ReceiveArgs) where
         repeated = λ _. untimed;
         others = λ o _. rw same;
         marks = λ o l n _ _ g. ap (λ (d : List ℕ). isMarkedIn d o l n) (sym same) ∙ g;
+        keptEntries = λ _. rw same;
+        entries = λ o. inl (rw same);
       }
     where
       untimed : OnlyTime c (left c r)
@@ -243,6 +292,8 @@ module _ (c : List ℕ) (r : ReceiveArgs) where
           repeated = λ g. timed (repeated-time before w r t g);
           others = λ o f. ap (λ (z : TableState). lookup o (z .records)) e ∙ others-same before w r t o f;
           marks = λ o l m small f g. marks-before before w r t o l m small f (ap (λ (z : TableState). markedOf z o l m) (sym e) ∙ g);
+          keptEntries = λ g. ap (λ (z : TableState). entriesOfRecord (lookup (said r .originator) (z .records))) e ∙ entries-kept before w r t g;
+          entries = λ o. subst (λ (z : TableState). OwnOrKept before w r t o (z .records)) (sym e) (entries-own before w r t o);
         }
 
     formed : Strangers c r

@@ -11,7 +11,7 @@ use Rattle.wire.specs.declared.Fault.{Fault}
 use Rattle.wire.specs.Check.{given, firstOf}
 use Rattle.rules.specs.declared.LinkRow.{LinkRow}
 use Rattle.rules.specs.declared.Received.{Received}
-use Rattle.rules.specs.Calls.{Call, make, receive, burst, own, sweep, question, list, numberOf, isRefusal, refusal}
+use Rattle.rules.specs.Calls.{Call, make, receive, burst, own, sweep, question, list, locate, numberOf, isRefusal, refusal}
 use Rattle.rules.specs.Rules.{OutcomeOf}
 use Rattle.rules.specs.Table.{table}
 use Rattle.rules.specs.Refusals.{facts, outcome}
@@ -35,6 +35,7 @@ lentOutput (own a) = a .output
 lentOutput (sweep t) = []
 lentOutput (question o) = []
 lentOutput (list o rs) = []
+lentOutput (locate a) = []
 
 abbrev pub lentRows : Call → List LinkRow
 lentRows (make a) = []
@@ -44,6 +45,7 @@ lentRows (own a) = []
 lentRows (sweep t) = []
 lentRows (question o) = []
 lentRows (list o rs) = rs
+lentRows (locate a) = []
 
 abbrev pub lentAnswers : Call → List Received
 lentAnswers (make a) = []
@@ -53,13 +55,14 @@ lentAnswers (own a) = []
 lentAnswers (sweep t) = []
 lentAnswers (question o) = []
 lentAnswers (list o rs) = []
+lentAnswers (locate a) = []
 
 -- ---- the cells c, whatever they hold, and any call
 
 module _ (c : List ℕ) (call : Call) where
   -- refused by f
   pub record Refused (f : Fault) : Type 0 where
-    -- it answers the number of f, one of 1 to 14; every other field is 0, but the place for 8
+    -- it answers the number of f, one of 1 to 15; every other field is 0, but the place for 8
     pub number : numberOf (callOn c call .reply .answer) ≡ f .number
     pub among : isRefusal (f .number) ≡ true
     pub reply : callOn c call .reply ≡ refusal call f
@@ -69,7 +72,7 @@ module _ (c : List ℕ) (call : Call) where
     pub answers : callOn c call .reply .answers ≡ lentAnswers call
     pub cells : callOn c call .cells ≡ c
 
-  -- not refused: the rules' reply, and in the cells the table that they leave; the number answered is none of 1 to 14
+  -- not refused: the rules' reply, and in the cells the table that they leave; the number answered is none of 1 to 15
   pub record Accepted : Type 0 where
     pub reply : callOn c call .reply ≡ outcomeOn c call .reply
     pub cells : callOn c call .cells ≡ encode (outcomeOn c call .state)

@@ -53,5 +53,5 @@ module _ (c : List ℕ) (a : MakeArgs) (cs : List Call) where
     pub described : decode cellsThen ≡ tableOf (bookThen (length c) a cs)
     -- an originator without counted messages has no record
     pub nothing : (o : ℕ) → messages (length c) a cs o ≡ none → recordsThen o ≡ []
-    -- otherwise exactly one exists, and its windows, counts and best link stand as the counted messages say
+    -- otherwise exactly one exists, and its windows, counts, best link and entries stand as the counted messages say
     pub one : (o : ℕ) (s : Log) → messages (length c) a cs o ≡ some s → (r : TableRecord) × (recordsThen o ≡ (o, r) ∷ []) × Stands (configIn cellsThen) s r

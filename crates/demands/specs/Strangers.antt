@@ -3,14 +3,17 @@
 -- `proofs/Strangers.antt` proves it of every call whose arguments are in the ranges of their types, which receive's contract says of each.
 use Prim.Native.Nat.{ℕ, _<_}
 use mathlib.Core.Path.{_≡_}
+use mathlib.Core.Logic.{_⊎_}
 use mathlib.Core.Bool.{Bool, true, false}
+use mathlib.Core.Option.{Option, some, Option·map}
 use mathlib.Core.List.{List}
 use lib.ListN.{set}
 use Rattle.lists.specs.Lists.{maybe}
 use Rattle.lists.specs.Keyed.{lookup, hasKey}
-use Rattle.window.specs.Window.{numbers}
+use Rattle.window.specs.Window.{numbers, inside}
 use Rattle.wire.specs.declared.Header.{Header}
-use Rattle.wire.specs.Packet.{header}
+use Rattle.wire.specs.Packet.{header, hna}
+use Rattle.wire.specs.Entries.{entriesOf}
 use Rattle.rules.specs.Calls.{ReceiveArgs, receive, numberOf, isRefusal}
 use Rattle.rules.specs.Rules.{linkBy, isEcho}
 use Rattle.rules.specs.Table.{isMarked}
@@ -21,6 +24,14 @@ use Rattle.table_layout.specs.Calls.{Done, refused, callOn}
 -- originator o has a record in which the number n is marked on link l
 abbrev pub isMarkedIn : List ℕ → (o l n : ℕ) → Bool
 isMarkedIn c o l n = maybe (lookup o (recordsIn c)) false (λ x. isMarked (configIn c) x l n)
+
+-- originator o has a record whose window holds the number n
+abbrev pub isInsideIn : List ℕ → (o n : ℕ) → Bool
+isInsideIn c o n = maybe (lookup o (recordsIn c)) false (λ x. inside (configIn c .settings .window) (x .current) n)
+
+-- the entries that originator o's record keeps, if it has one
+abbrev pub entriesIn : List ℕ → (o : ℕ) → Option (List ℕ)
+entriesIn c o = Option·map (λ x. x .entries) (lookup o (recordsIn c))
 
 -- d is c but for the cell of the time
 abbrev pub OnlyTime : (c d : List ℕ) → Type 0
@@ -62,3 +73,7 @@ module _ (c : List ℕ) (r : ReceiveArgs) where
     pub others : (o : ℕ) → (o ≡ said r .originator → ⊥) → lookup o (recordsIn left) ≡ lookup o (recordsIn c)
     -- and in it marks at most one number, its own on its own link: every other that is marked then was marked before, so none in a new record
     pub marks : (o l n : ℕ) → n < numbers → ((o ≡ said r .originator) × (l ≡ linkBy r) × (n ≡ said r .sequence) → ⊥) → isMarkedIn left o l n ≡ true → isMarkedIn c o l n ≡ true
+    -- a packet whose number is inside the window of its originator's record leaves that record's entries as they were (RULES 6.4)
+    pub keptEntries : isInsideIn c (said r .originator) (said r .sequence) ≡ true → entriesIn left (said r .originator) ≡ entriesIn c (said r .originator)
+    -- and no packet puts entries into a record but its own, all of them, into its originator's
+    pub entries : (o : ℕ) → (entriesIn left o ≡ entriesIn c o) ⊎ ((o ≡ said r .originator) × (entriesIn left o ≡ some (entriesOf (hna (r .packet)))))

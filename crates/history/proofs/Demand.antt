@@ -6,7 +6,7 @@ use mathlib.Core.Option.{Option, none, some, Option·map}
 use mathlib.Core.List.{List, [], _∷_}
 use lib.Dec.{eqb}
 use native.Mathlib.Omega.{arith}
-use borrow.Author.Tests.{ltb-true, eqb-true, eqb-false, lt-ltb, eq-eqb, ne-eqb}
+use borrow.Author.Tests.{ltb-true, ltb-false, eqb-true, eqb-false, lt-ltb, eq-eqb, ne-eqb}
 use Rattle.lists.specs.Lists.{maybe, keep, elem}
 use Rattle.lists.specs.Keyed.{lookup, mapValues}
 use Rattle.lists.proofs.Tests.{both, and-left, and-right, or-else}
@@ -18,14 +18,14 @@ use Rattle.window.proofs.Numbers.{distance-lt}
 use Rattle.window.proofs.Words.{tally-none, tally-same, tally-most}
 use Rattle.rules.specs.Settings.{Config, MakeArgs, configOf, allowed, makeAllowed}
 use Rattle.rules.specs.Calls.{Call}
-use Rattle.rules.specs.declared.Ogm.{Ogm}
+use Rattle.rules.specs.Messages.{Message}
 use Rattle.rules.specs.Rules.{sequenceOf, standsBelow, fresh}
 use Rattle.rules.specs.Table.{TableRecord, TableState, marksAt, isMarked, table}
 use Rattle.rules.proofs.Config.{make-allowed}
-use Rattle.history.specs.Book.{Log, one, cons, latest, current, came, stays, logCount, logLinks, othersBelow, logBest, book}
+use Rattle.history.specs.Book.{Log, one, cons, latest, current, logEntries, came, stays, logCount, logLinks, othersBelow, logBest, book}
 use Rattle.history.specs.TableOfBook.{recordOf}
 use Rattle.history.specs.History.{after}
-use Rattle.history.specs.Demand.{Stood, now, before, Later, past, Stayed, OthersBelow, HowMany, Best, Stands, bookThen, TablesTell}
+use Rattle.history.specs.Demand.{Stood, now, before, Later, past, Stayed, OthersBelow, HowMany, Best, MadeOrMoved, made, moved, Entries, Stands, bookThen, TablesTell}
 use Rattle.history.proofs.Sound.{fresh-sound, after-sound}
 use Rattle.history.proofs.Log.{W, absent, zero-below}
 use Rattle.history.proofs.Records.{count-marks, marks-at, marked-stays}
@@ -51,10 +51,14 @@ later-size : {s t : Log} → Later s t → size t < size s
 unfolding size
 later-size (past e) = let h = stood-size e in omega arith
 
+-- no count is later than the latest
+none-later : {s u : Log} → Stood s u → Later u s → ⊥
+none-later a b = let x = stood-size a in let y = later-size b in omega arith
+
 -- ---- a number that stays
 
 module _ (κ : Config) (l n : ℕ) where
-  at-latest : (m : Ogm) (s : Log) → latest s ≡ m → came m l n ≡ true → distance (current κ s) n < W κ → Stayed κ s l n
+  at-latest : (m : Message) (s : Log) → latest s ≡ m → came m l n ≡ true → distance (current κ s) n < W κ → Stayed κ s l n
   at-latest m s e h k =
       record {
         at = s;
@@ -65,7 +69,7 @@ module _ (κ : Config) (l n : ℕ) where
       }
 
   -- one OGM more leaves what stayed, if its window still holds it
-  still : (m : Ogm) (s : Log) → distance (current κ (cons m s)) n < W κ → Stayed κ s l n → Stayed κ (cons m s) l n
+  still : (m : Message) (s : Log) → distance (current κ (cons m s)) n < W κ → Stayed κ s l n → Stayed κ (cons m s) l n
   still m s i r = record { at = r .at; stood = before (r .stood); link = r .link; number = r .number; inside = go }
     where
       go : (u : Log) → Stood (cons m s) u → Stood u (r .at) → distance (current κ u) n < W κ
@@ -86,7 +90,7 @@ module _ (κ : Config) (l n : ℕ) where
       go false e f = still m s i (f (or-else (came m l n) (stays κ s l n) (and-right (inside (W κ) (current κ (cons m s)) n) (came m l n || stays κ s l n) h) e))
 
   -- the other way round
-  came-as : (m : Ogm) → m .link ≡ l → sequenceOf m ≡ n → came m l n ≡ true
+  came-as : (m : Message) → m .link ≡ l → sequenceOf m ≡ n → came m l n ≡ true
   came-as m p q = both (eq-eqb l (m .link) (sym p)) (eq-eqb n (sequenceOf m) (sym q))
 
   back : (s t : Log) → Stood s t → latest t .link ≡ l → sequenceOf (latest t) ≡ n
@@ -125,7 +129,7 @@ module _ (κ : Config) (hκ : allowed κ ≡ true) where
       go k true e = refl
       go k false e = h k (eqb-false k (latest s .link) e)
 
-  first-test : (m : Ogm) → othersBelow κ (one m) (m .link) ≡ true
+  first-test : (m : Message) → othersBelow κ (one m) (m .link) ≡ true
   unfolding othersBelow logLinks
   first-test m = ap (λ (t : Bool). (t || standsBelow κ (logCount κ (one m) (m .link)) (logCount κ (one m) (m .link))) && true) (eq-eqb (m .link) (m .link) refl)
 
@@ -136,7 +140,7 @@ module _ (κ : Config) (hκ : allowed κ ≡ true) where
         stood = now;
         link = refl;
         highest = from-test s h;
-        last = λ u a b _. absurd (let x = stood-size a in let y = later-size b in omega arith);
+        last = λ u a b _. none-later a b;
       }
 
   best-is : (s : Log) → Best κ s (logBest κ s)
@@ -151,6 +155,25 @@ module _ (κ : Config) (hκ : allowed κ ≡ true) where
           last : (u : Log) → Stood (cons m s) u → Later u (r .at) → OthersBelow κ u → ⊥
           last u now b t = false≢true (sym e ∙ to-test (cons m s) t)
           last u (before a) b t = r .last u a b t
+
+-- ---- the entries
+
+module _ (κ : Config) where
+  entries-latest : (s : Log) → MadeOrMoved κ s → Entries κ s (latest s .entries)
+  entries-latest s h = record { at = s; stood = now; list = refl; replaced = h; last = λ u a b _. none-later a b }
+
+  entries-are : (s : Log) → Entries κ s (logEntries κ s)
+  unfolding logEntries inside
+  entries-are (one m) = entries-latest (one m) made
+  entries-are (cons m s) = go (inside (W κ) (current κ s) (sequenceOf m)) refl (entries-are s)
+    where
+      go : (t : Bool) → inside (W κ) (current κ s) (sequenceOf m) ≡ t → Entries κ s (logEntries κ s) → Entries κ (cons m s) (cond t (logEntries κ s) (m .entries))
+      go true e r = record { at = r .at; stood = before (r .stood); list = r .list; replaced = r .replaced; last = last }
+        where
+          last : (u : Log) → Stood (cons m s) u → Later u (r .at) → MadeOrMoved κ u → ⊥
+          last u now b (moved h) = let x = ltb-true (distance (current κ s) (sequenceOf m)) (W κ) e in omega arith
+          last u (before a) b t = r .last u a b t
+      go false e r = entries-latest (cons m s) (moved (let x = ltb-false (distance (current κ s) (sequenceOf m)) (W κ) e in omega arith))
 
 -- ---- counts
 
@@ -180,6 +203,7 @@ module _ (κ : Config) (hκ : allowed κ ≡ true) (s : Log) where
         most = λ l. rw (how-many l) (tally-most (W κ) (λ k. isMarked κ (recordOf κ s) l (distance (current κ s) k)));
         counts = λ t _ l. how-many-stayed κ t l;
         best = best-is κ hκ s;
+        entries = entries-are κ s;
       }
 
 -- ---- what stands under an address in a table that is a book's

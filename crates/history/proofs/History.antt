@@ -36,6 +36,7 @@ agree κ h =
       best = λ s. refl;
       isBest = λ s l. refl;
       links = links-same κ;
+      entries = λ s. refl;
       noRows = λ ns. refl;
       hasRow = hasRow-same κ;
       rowsHeld = rowsHeld-same κ;

@@ -12,7 +12,7 @@ use Rattle.window.specs.Window.{numbers, distance, inside, advance}
 use Rattle.window.proofs.Numbers.{distance-back, distance-self, distance-higher, distance-lower, distance-turn}
 use Rattle.window.proofs.Words.{some-tally}
 use Rattle.rules.specs.Settings.{newestWins, Config, allowed}
-use Rattle.rules.specs.declared.Ogm.{Ogm}
+use Rattle.rules.specs.Messages.{Message}
 use Rattle.rules.specs.Rules.{sequenceOf, standsBelow}
 use Rattle.rules.proofs.Config.{window-low, window-high}
 use Rattle.rules.proofs.Counting.{sequence-lt, advance-lt, advance-inside}
@@ -56,7 +56,7 @@ module _ (κ : Config) where
     inside-below c k hc hk = lt-ltb (distance c (distance c k)) W (rw (distance-back c k hc (omega (arith, window-high κ h))) hk)
 
     -- a window that moves leaves all that does not reach up to its new place
-    far : (m : Ogm) (s : Log) (k : ℕ) → k < distance (current κ (cons m s)) (current κ s) → W ≤ distance (current κ s) (distance (current κ (cons m s)) k)
+    far : (m : Message) (s : Log) (k : ℕ) → k < distance (current κ (cons m s)) (current κ s) → W ≤ distance (current κ s) (distance (current κ (cons m s)) k)
     unfolding current inside
     far m s k = go (inside W (current κ s) (sequenceOf m)) refl
       where
@@ -69,7 +69,7 @@ module _ (κ : Config) where
             omega arith
 
     -- what stayed before one more OGM, seen from the current number then
-    stays-before : (m : Ogm) (s : Log) (l k : ℕ) → k < W
+    stays-before : (m : Message) (s : Log) (l k : ℕ) → k < W
         → stays κ s l (distance (current κ (cons m s)) k) ≡ (leb (distance (current κ (cons m s)) (current κ s)) k && stays κ s l (distance (current κ s) (k - distance (current κ (cons m s)) (current κ s))))
     stays-before m s l k hk = go (leb d k) refl
       where
@@ -85,7 +85,7 @@ module _ (κ : Config) where
         go false e = outside-false s l (distance c k) (far m s k (leb-false d k e))
 
     -- the marks after one more OGM, by their places below current
-    pub stays-next : (m : Ogm) (s : Log) (l k : ℕ) → k < W
+    pub stays-next : (m : Message) (s : Log) (l k : ℕ) → k < W
         → stays κ (cons m s) l (distance (current κ (cons m s)) k) ≡ ((eqb l (m .link) && eqb k (distance (current κ (cons m s)) (sequenceOf m))) || (leb (distance (current κ (cons m s)) (current κ s)) k && stays κ s l (distance (current κ s) (k - distance (current κ (cons m s)) (current κ s)))))
     unfolding stays
     stays-next m s l k hk =
@@ -101,7 +101,7 @@ module _ (κ : Config) where
     latest-in (one m) = omega (arith, distance-self (sequenceOf m), window-low κ h)
     latest-in (cons m s) = advance-inside W (current κ s) (sequenceOf m) (window-low κ h)
 
-    came-latest : (m : Ogm) → came m (m .link) (sequenceOf m) ≡ true
+    came-latest : (m : Message) → came m (m .link) (sequenceOf m) ≡ true
     came-latest m = both (eq-eqb (m .link) (m .link) refl) (eq-eqb (sequenceOf m) (sequenceOf m) refl)
 
     latest-stays : (s : Log) → stays κ s (latest s .link) (sequenceOf (latest s)) ≡ true

@@ -10,16 +10,17 @@ use borrow.Author.Tests.{not-false}
 use Rattle.lists.specs.Lists.{maybe, keep}
 use Rattle.lists.specs.Keyed.{lookup, mapValues}
 use Rattle.lists.proofs.Tests.{cond-ap, maybe-map}
-use Rattle.lists.proofs.Lists.{keep-map, keep-same, all-true}
+use Rattle.lists.proofs.Lists.{keep-map, keep-same, all-true, map-map, map-same}
 use Rattle.lists.proofs.Keyed.{lookup-mapValues, length-mapValues, put-mapValues}
 use Rattle.wire.specs.declared.Header.{Header}
 use Rattle.wire.specs.declared.Fault.{Fault}
 use Rattle.wire.specs.Packet.{header}
 use Rattle.wire.specs.Check.{firstOf}
 use Rattle.rules.specs.Settings.{Config, configOf, allowed, makeAllowed}
-use Rattle.rules.specs.Calls.{Call, make, receive, burst, own, sweep, question, list, ReceiveArgs, BurstArgs, packetsOf, singleCall, Reply}
-use Rattle.rules.specs.declared.Ogm.{Ogm}
-use Rattle.rules.specs.Rules.{sequenceOf, Sends, sendOn, Reading, StateOf, OutcomeOf, unless, receiveFaults, linkBy, message, isDuplicate, refuse, routeOf, linkRows, answerBest, fillRows, Each, burstReply, receiveOn, burstOn, takeBurst, send, isExpired, purge, step}
+use Rattle.rules.specs.Calls.{Call, make, receive, burst, own, sweep, question, list, locate, ReceiveArgs, BurstArgs, packetsOf, singleCall, Reply}
+use Rattle.rules.specs.Messages.{Message}
+use Rattle.rules.specs.Rules.{sequenceOf, Sends, sendOn, Reading, StateOf, OutcomeOf, unless, receiveFaults, linkBy, message, isDuplicate, refuse, routeOf, linkRows, answerBest, fillRows, entriesHeld, answerLocate, Each, burstReply, receiveOn, burstOn, takeBurst, send, isExpired, purge, step}
+use Rattle.rules.specs.Lookup.{serving}
 use Rattle.rules.specs.Refusals.{Questions, found, questions, countedRecord, roomFacts, stateThen, recordThen, wouldPass, taken, facts, outcome}
 use Rattle.rules.proofs.Faults.{none-at, not-given}
 use Rattle.rules.proofs.Config.{make-allowed}
@@ -31,14 +32,15 @@ use Rattle.history.proofs.Sound.{Sound, one-sound, step-sound}
 
 -- f and g take the parts of B to those of T, and each word with them, under κ
 pub record Agree (B T : Reading) (f : Config → B .Record → T .Record) (g : Config → Sends → B .Rows → T .Rows) (κ : Config) : Type 0 where
-  pub first : (m : Ogm) → T .first κ m ≡ f κ (B .first κ m)
-  pub next : (m : Ogm) (a : B .Record) → T .next κ m (f κ a) ≡ f κ (B .next κ m a)
+  pub first : (m : Message) → T .first κ m ≡ f κ (B .first κ m)
+  pub next : (m : Message) (a : B .Record) → T .next κ m (f κ a) ≡ f κ (B .next κ m a)
   pub time : (a : B .Record) → T .time (f κ a) ≡ B .time a
   pub lastTtl : (a : B .Record) → T .lastTtl (f κ a) ≡ B .lastTtl a
-  pub duplicate : (a : B .Record) (m : Ogm) → T .duplicate κ (f κ a) (m .link) (sequenceOf m) ≡ B .duplicate κ a (m .link) (sequenceOf m)
+  pub duplicate : (a : B .Record) (m : Message) → T .duplicate κ (f κ a) (m .link) (sequenceOf m) ≡ B .duplicate κ a (m .link) (sequenceOf m)
   pub best : (a : B .Record) → T .best κ (f κ a) ≡ B .best κ a
   pub isBest : (a : B .Record) (l : ℕ) → T .isBest κ (f κ a) l ≡ B .isBest κ a l
   pub links : (a : B .Record) → T .links κ (f κ a) ≡ B .links κ a
+  pub entries : (a : B .Record) → T .entries κ (f κ a) ≡ B .entries κ a
   pub noRows : (ns : Sends) → T .noRows ≡ g κ ns (B .noRows)
   pub hasRow : (ns : Sends) (rs : B .Rows) (l : ℕ) → T .hasRow κ (g κ ns rs) l ≡ B .hasRow κ rs l
   pub rowsHeld : (ns : Sends) (rs : B .Rows) → T .rowsHeld κ (g κ ns rs) ≡ B .rowsHeld κ rs
@@ -75,6 +77,11 @@ module _ (B T : Reading) (f : Config → B .Record → T .Record) (g : Config �
   rows-same : (x : Option (B .Record)) → linkRows T κ (Option·map (f κ) x) ≡ linkRows B κ x
   rows-same none = refl
   rows-same (some a) = rw (A .links a) (simp (A .isBest))
+
+  entries-same : entriesHeld T s′ ≡ entriesHeld B s
+  entries-same =
+      map-map (λ (e : ℕ × B .Record). (e .0, f κ (e .1))) (λ (e : ℕ × T .Record). (e .0, T .entries κ (e .1))) (s .records)
+      ∙ map-same _ _ (λ e. ap (λ (l : List ℕ). (e .0, l)) (A .entries (e .1))) (s .records)
 
   -- a test of records keeps the same ones
   kept-same : (p : T .Record → Bool) (q : B .Record → Bool) → ((a : B .Record) → p (f κ a) ≡ q a)
@@ -113,7 +120,7 @@ module _ (B T : Reading) (f : Config → B .Record → T .Record) (g : Config �
         go (some a) = A .next (message r h) a
 
     room-same : (q : Questions) → roomFacts T s′ r h q ≡ roomFacts B s r h q
-    room-same q = rw (A .rowsHeld (s .sends) (s .rows), counted-same, A .links, found-same, maybe-map, length-mapValues)
+    room-same q = rw (A .rowsHeld (s .sends) (s .rows), counted-same, A .links, A .entries, found-same, maybe-map, length-mapValues)
 
     state-same : (q : Questions) → stateThen T s′ r h q ≡ image B T f g (stateThen B s r h q)
     state-same q =
@@ -144,6 +151,7 @@ module _ (B T : Reading) (f : Config → B .Record → T .Record) (g : Config �
   facts-same cells (own a) = refl
   facts-same cells (sweep t) = refl
   facts-same cells (question o) = refl
+  facts-same cells (locate a) = refl
   facts-same cells (list o lent) = rw (lookup-mapValues (f κ) o (s .records), rows-same (lookup o (s .records)))
 
 module _ (B T : Reading) (f : Config → B .Record → T .Record) (g : Config → Sends → B .Rows → T .Rows) (agree : (κ : Config) → allowed κ ≡ true → Agree B T f g κ) (cells : ℕ) where
@@ -182,7 +190,7 @@ module _ (B T : Reading) (f : Config → B .Record → T .Record) (g : Config �
 
   outcome-same : (s : StateOf B) → Sound B s → (c : Call) → firstOf (facts B cells s c) ≡ none
       → outcome T cells (image B T f g s) c ≡ imageOf B T f g (outcome B cells s c)
-  unfolding facts outcome takeBurst send purge answerBest fillRows
+  unfolding facts outcome takeBurst send purge answerBest fillRows answerLocate
   outcome-same s p (make a) n =
       let h = make-allowed cells a (not-false (makeAllowed cells a) (not-given (not (makeAllowed cells a)) 12 (none-at (facts B cells s (make a)) n 0))) in
       rw (agree (configOf a) h .noRows [])
@@ -199,6 +207,8 @@ module _ (B T : Reading) (f : Config → B .Record → T .Record) (g : Config �
       )
   outcome-same s p (question o) n =
       rw (lookup-mapValues (f (s .config)) o (s .records), route-same B T f g s (agree (s .config) (p .allowed)) (p .fit) (lookup o (s .records)))
+  outcome-same s p (locate a) n =
+      ap (λ (es : List (ℕ × List ℕ)). answerLocate T (image B T f g s) (serving a es)) (entries-same B T f g s (agree (s .config) (p .allowed)) (p .fit))
   outcome-same s p (list o lent) n =
       rw (lookup-mapValues (f (s .config)) o (s .records), rows-same B T f g s (agree (s .config) (p .allowed)) (p .fit) (lookup o (s .records)))
 

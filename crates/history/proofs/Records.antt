@@ -17,12 +17,12 @@ use Rattle.window.proofs.Numbers.{distance-back, distance-self, distance-turn}
 use Rattle.window.proofs.Words.{word-same, word-none, tally-none, none-tally}
 use Rattle.window.proofs.Window.{laws, word-laws}
 use Rattle.rules.specs.Settings.{Config, allowed}
-use Rattle.rules.specs.declared.Ogm.{Ogm}
+use Rattle.rules.specs.Messages.{Message}
 use Rattle.rules.specs.Rules.{sequenceOf, standsBelow}
-use Rattle.rules.specs.Table.{TableRecord, marksAt, isHighest, settle, withLinks, moveTo, firstRecord, nextRecord, isMarked}
+use Rattle.rules.specs.Table.{TableRecord, marksAt, isHighest, settle, withLinks, withEntries, moveTo, firstRecord, nextRecord, isMarked}
 use Rattle.rules.proofs.Config.{window-low, window-high}
 use Rattle.rules.proofs.Counting.{sequence-lt}
-use Rattle.history.specs.Book.{Log, one, cons, current, stays, logCount, logLinks, othersBelow, logBest, isHeld, heldLinks}
+use Rattle.history.specs.Book.{Log, one, cons, current, logEntries, stays, logCount, logLinks, othersBelow, logBest, isHeld, heldLinks}
 use Rattle.history.specs.TableOfBook.{marksOf, recordOf}
 use Rattle.history.proofs.Log.{W, current-lt, outside-false, absent, inside-below, stays-next, latest-in, zero-below}
 
@@ -75,7 +75,7 @@ marked-stays κ s l n hn = go (inside (W κ) (current κ s) n) refl
 
 -- ---- one more OGM
 
-module _ (κ : Config) (h : allowed κ ≡ true) (m : Ogm) (s : Log) where
+module _ (κ : Config) (h : allowed κ ≡ true) (m : Message) (s : Log) where
   abbrev c : ℕ
   c = current κ (cons m s)
 
@@ -158,13 +158,13 @@ module _ (κ : Config) (h : allowed κ ≡ true) (m : Ogm) (s : Log) where
       (keep-same _ (isHeld κ (cons m s)) (λ l. ap (λ (t : Bool). t || eqb l (logBest κ (cons m s))) (marks-some κ (cons m s) l)) (putKey (m .link) (heldLinks κ s))
       ∙ keep-putKey (isHeld κ (cons m s)) (isHeld κ s) (m .link) held-next (logLinks s))
 
-  -- the record before, with the window moved
+  -- the record before, with the window moved and the entries that are then kept
   abbrev moved-up : TableRecord
-  moved-up = moveTo κ c (recordOf κ s)
+  moved-up = withEntries (logEntries κ (cons m s)) (moveTo κ c (recordOf κ s))
 
   -- the record after, with best b and links ls
   abbrev with : ℕ → List (ℕ × ℕ) → TableRecord
-  with b ls = record { current = c; time = m .time; lastTtl = m .ttl; best = b; links = ls }
+  with b ls = record { current = c; time = m .time; lastTtl = m .ttl; best = b; links = ls; entries = logEntries κ (cons m s) }
 
   settle-next : settle κ m (marksOf κ (cons m s) (m .link)) (withLinks among moved-up) ≡ recordOf κ (cons m s)
   unfolding logBest
@@ -173,7 +173,7 @@ module _ (κ : Config) (h : allowed κ ≡ true) (m : Ogm) (s : Log) where
       ∙ ap (with (logBest κ (cons m s))) kept-next
 
   pub count-next : nextRecord κ m (recordOf κ s) ≡ recordOf κ (cons m s)
-  unfolding nextRecord current advance
+  unfolding nextRecord current logEntries advance
   count-next =
       ap (λ v. settle κ m v (withLinks (put (m .link) v (moved-up .links)) moved-up)) (ap (λ v. mark v (distance c (sequenceOf m))) word-before ∙ marks-own)
       ∙ ap (λ (ls : List (ℕ × ℕ)). settle κ m (marksOf κ (cons m s) (m .link)) (withLinks ls moved-up)) links-next
@@ -181,7 +181,7 @@ module _ (κ : Config) (h : allowed κ ≡ true) (m : Ogm) (s : Log) where
 
 -- ---- the first OGM
 
-module _ (κ : Config) (h : allowed κ ≡ true) (m : Ogm) where
+module _ (κ : Config) (h : allowed κ ≡ true) (m : Message) where
   one-marks : mark 0 (distance (sequenceOf m) (sequenceOf m)) ≡ marksOf κ (one m) (m .link)
   unfolding marksOf stays current
   one-marks =
@@ -193,10 +193,10 @@ module _ (κ : Config) (h : allowed κ ≡ true) (m : Ogm) where
 
   -- with best b and links ls
   abbrev single : ℕ → List (ℕ × ℕ) → TableRecord
-  single b ls = record { current = sequenceOf m; time = m .time; lastTtl = m .ttl; best = b; links = ls }
+  single b ls = record { current = sequenceOf m; time = m .time; lastTtl = m .ttl; best = b; links = ls; entries = m .entries }
 
   pub first-one : firstRecord κ m ≡ recordOf κ (one m)
-  unfolding firstRecord current logBest logLinks isHeld
+  unfolding firstRecord current logEntries logBest logLinks isHeld
   first-one =
       let v = mark 0 (distance (sequenceOf m) (sequenceOf m)) in
       let t : eqb (m .link) (m .link) ≡ true = eq-eqb (m .link) (m .link) refl in

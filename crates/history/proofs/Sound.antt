@@ -10,8 +10,8 @@ use Rattle.lists.proofs.Rising.{Rising, rising-keep, rising-put}
 use Rattle.wire.specs.Packet.{header}
 use Rattle.wire.specs.Check.{firstOf}
 use Rattle.rules.specs.Settings.{Config, configOf, allowed, makeAllowed}
-use Rattle.rules.specs.Calls.{ReceiveArgs, singleCall, packetsOf, Call, make, receive, burst, own, sweep, question, list}
-use Rattle.rules.specs.Rules.{Reading, StateOf, fresh, receiveOn, takeBurst, isExpired, send, purge, answerBest, fillRows, step}
+use Rattle.rules.specs.Calls.{ReceiveArgs, singleCall, packetsOf, Call, make, receive, burst, own, sweep, question, list, locate}
+use Rattle.rules.specs.Rules.{Reading, StateOf, fresh, receiveOn, takeBurst, isExpired, send, purge, answerBest, fillRows, answerLocate, step}
 use Rattle.rules.specs.Refusals.{questions, countedRecord, wouldCount, facts, outcome}
 use Rattle.rules.proofs.Faults.{none-at, not-given}
 use Rattle.rules.proofs.Config.{make-allowed}
@@ -45,7 +45,7 @@ one-sound W s p r = step-keeps W 0 (Sound W) s (receive r) p (λ n. received-sou
 
 module _ (W : Reading) (cells : ℕ) where
   taken-sound : (s : StateOf W) → Sound W s → (c : Call) → firstOf (facts W cells s c) ≡ none → Sound W (outcome W cells s c .state)
-  unfolding facts outcome takeBurst send purge answerBest fillRows
+  unfolding facts outcome takeBurst send purge answerBest fillRows answerLocate
   taken-sound s p (make a) n = fresh-sound W (configOf a) (make-allowed cells a (not-false (makeAllowed cells a) (not-given (not (makeAllowed cells a)) 12 (none-at (facts W cells s (make a)) n 0))))
   taken-sound s p (receive r) n = received-sound W s p r
   taken-sound s p (burst a) n = each-keeps _ (Sound W) (a .time) (λ _. true) (λ x o q h y. one-sound W x y (singleCall (a .time) o q)) (packetsOf a) (all-true (λ _. true) (λ _. refl) (packetsOf a)) s (a .output) p
@@ -53,6 +53,7 @@ module _ (W : Reading) (cells : ℕ) where
   taken-sound s p (sweep t) n = record { allowed = p .allowed; fit = p .fit; rise = rising-keep (λ e. not (isExpired W (s .config) t (e .1))) (s .records) (p .rise) }
   taken-sound s p (question o) n = p
   taken-sound s p (list o lent) n = p
+  taken-sound s p (locate a) n = p
 
   pub step-sound : (s : StateOf W) → Sound W s → (c : Call) → Sound W (step W cells s c .state)
   step-sound s p c = step-keeps W cells (Sound W) s c p (taken-sound s p c)

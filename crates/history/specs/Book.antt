@@ -9,17 +9,17 @@ use Rattle.lists.specs.Keyed.{hasKey, put, putKey, tabulate}
 use Rattle.window.specs.Window.{distance, inside, tally}
 use Rattle.rules.specs.Settings.{Config}
 use Rattle.rules.specs.Calls.{interfaceOf}
-use Rattle.rules.specs.declared.Ogm.{Ogm}
+use Rattle.rules.specs.Messages.{Message}
 use Rattle.rules.specs.Rules.{sequenceOf, standsBelow, Reading, State}
 
 -- ---- an originator's counted OGMs
 
 -- one at least, the latest outermost; an originator whose list is empty has no log
 pub data Log : Type 0 where
-  one : Ogm → Log
-  cons : Ogm → Log → Log
+  one : Message → Log
+  cons : Message → Log → Log
 
-abbrev pub latest : Log → Ogm
+abbrev pub latest : Log → Message
 latest (one m) = m
 latest (cons m s) = m
 
@@ -28,8 +28,13 @@ unfoldable pub current : Config → Log → ℕ
 current κ (one m) = sequenceOf m
 current κ (cons m s) = cond (inside (κ .settings .window) (current κ s) (sequenceOf m)) (current κ s) (sequenceOf m)
 
+-- the entries of the list's last OGM whose number was first or new
+unfoldable pub logEntries : Config → Log → List ℕ
+logEntries κ (one m) = m .entries
+logEntries κ (cons m s) = cond (inside (κ .settings .window) (current κ s) (sequenceOf m)) (logEntries κ s) (m .entries)
+
 -- m is an OGM through link l with number n
-abbrev pub came : Ogm → (l n : ℕ) → Bool
+abbrev pub came : Message → (l n : ℕ) → Bool
 came m l n = eqb l (m .link) && eqb n (sequenceOf m)
 
 -- n was counted through l, and stayed inside the window after that count and after every later one
@@ -90,6 +95,7 @@ book =
       best = logBest;
       isBest = λ κ s l. eqb (logBest κ s) l;
       links = λ κ s. tabulate (logCount κ s) (heldLinks κ s);
+      entries = logEntries;
       Rows = Echoes;
       noRows = [];
       hasRow = λ κ es l. hasKey l (recent κ es);

@@ -11,10 +11,10 @@ use Rattle.lists.specs.Keyed.{lookup}
 use Rattle.window.specs.Window.{numbers, distance, count, tally}
 use Rattle.rules.specs.Settings.{Config, MakeArgs, configOf}
 use Rattle.rules.specs.Calls.{Call}
-use Rattle.rules.specs.declared.Ogm.{Ogm}
+use Rattle.rules.specs.Messages.{Message}
 use Rattle.rules.specs.Rules.{sequenceOf, standsBelow, fresh}
 use Rattle.rules.specs.Table.{TableRecord, TableState, marksAt, isMarked, table}
-use Rattle.history.specs.Book.{Log, cons, latest, current, logCount, book, BookState}
+use Rattle.history.specs.Book.{Log, one, cons, latest, current, logCount, book, BookState}
 use Rattle.history.specs.History.{after, replies}
 
 -- ---- the counted messages of an originator as time went on
@@ -22,11 +22,11 @@ use Rattle.history.specs.History.{after, replies}
 -- t is the log s as it stood after one of its counts
 pub data Stood : Log → Log → Type 0 where
   now : {s : Log} → Stood s s
-  before : {m : Ogm} {s t : Log} → Stood s t → Stood (cons m s) t
+  before : {m : Message} {s t : Log} → Stood s t → Stood (cons m s) t
 
 -- u is the log t and later messages, one at least
 pub data Later : Log → Log → Type 0 where
-  past : {m : Ogm} {u t : Log} → Stood u t → Later (cons m u) t
+  past : {m : Message} {u t : Log} → Stood u t → Later (cons m u) t
 
 -- n was counted through l, and stayed inside the window after that count and after every later one
 pub record Stayed (κ : Config) (s : Log) (l n : ℕ) : Type 0 where
@@ -54,6 +54,19 @@ pub record Best (κ : Config) (s : Log) (b : ℕ) : Type 0 where
   pub highest : OthersBelow κ at
   pub last : (u : Log) → Stood s u → Later u at → OthersBelow κ u → ⊥
 
+-- the latest message of a log made the record, or moved the window: its number lay outside the window that stood before it
+pub data MadeOrMoved (κ : Config) : Log → Type 0 where
+  made : {m : Message} → MadeOrMoved κ (one m)
+  moved : {m : Message} {s : Log} → κ .settings .window ≤ distance (current κ s) (sequenceOf m) → MadeOrMoved κ (cons m s)
+
+-- es are the entries of the latest message that made the record or moved the window
+pub record Entries (κ : Config) (s : Log) (es : List ℕ) : Type 0 where
+  pub at : Log
+  pub stood : Stood s at
+  pub list : latest at .entries ≡ es
+  pub replaced : MadeOrMoved κ at
+  pub last : (u : Log) → Stood s u → Later u at → MadeOrMoved κ u → ⊥
+
 -- ---- how the record r of the counted messages s stands
 
 pub record Stands (κ : Config) (s : Log) (r : TableRecord) : Type 0 where
@@ -65,6 +78,8 @@ pub record Stands (κ : Config) (s : Log) (r : TableRecord) : Type 0 where
   -- the best link, by counts as they stood after each count
   pub counts : (t : Log) → Stood s t → (l : ℕ) → HowMany κ t l
   pub best : Best κ s (r .best)
+  -- the list of entries is that of the latest counted message that moved the window or made the record
+  pub entries : Entries κ s (r .entries)
 
 -- ---- a history: a make that isn't refused, and then any calls, refused ones and further makes among them, on the table that it gave
 

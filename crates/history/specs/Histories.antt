@@ -1,13 +1,13 @@
--- Short histories with the answers that are due, which both readings give. W is 8; neighbours 20, 30 and 40; originator 900.
+-- Short histories with the answers that are due, which both readings give. W is 8; neighbours 20, 30 and 40; originators 900 and 901.
 use Prim.Native.Nat.{ℕ}
-use mathlib.Core.List.{List, [], _∷_}
+use mathlib.Core.List.{List, [], _∷_, _++_, map}
 use lib.ListN.{replicate}
 use Rattle.rules.specs.declared.Settings.{Settings}
 use Rattle.rules.specs.Settings.{newestWins, presentStays, cellsNeeded}
-use Rattle.rules.specs.Calls.{Call, make, sweep, question, list}
+use Rattle.rules.specs.Calls.{Call, make, sweep, question, list, locate}
 use Rattle.rules.specs.Rules.{Reading, fresh}
 use Rattle.rules.specs.Examples.{address, settingsBy, settings, config, packet, hearAll, hear, write, played, nowhere, via, heard, unheard, wrote, total, bundled, told, joined}
-use Rattle.rules.specs.Edges.{makeArgs, blank}
+use Rattle.rules.specs.Edges.{makeArgs, upFrom, blank}
 
 pub record History : Type 0 where
   pub settings : Settings
@@ -37,6 +37,25 @@ ogmTtl a n t = hear a 0 0 12 (packet 900 0 t n)
 -- an echo that is taken: no record is held of its originator
 abbrev pub echoTaken : List ℕ
 echoTaken = heard 22 0 nowhere
+
+-- an entry's octets, its network's and its mask
+abbrev pub entry : (a b c d mask : ℕ) → List ℕ
+entry a b c d m = a ∷ b ∷ c ∷ d ∷ m ∷ []
+
+-- an OGM of originator o with number n and these entries; the output has room for 17
+abbrev pub announce : (sender o n : ℕ) → (entries : List (List ℕ)) → Call
+announce a o n es = hear a 0 0 97 (packet o 0 50 n ++ joined es)
+
+-- the lookup's answer: the originator and the entry; or that none covers the address
+abbrev pub serves : (o a b c d mask : ℕ) → List ℕ
+serves o a b c d m = 0 ∷ 1 ∷ o ∷ address a b c d ∷ m ∷ []
+
+abbrev pub noneCovers : List ℕ
+noneCovers = 0 ∷ 0 ∷ 0 ∷ 0 ∷ 0 ∷ []
+
+-- so many entries that do not cover 10.1.0.7, and behind them one that does
+abbrev pub lastOf : (others : ℕ) → List (List ℕ)
+lastOf n = replicate n (entry 9 0 0 0 8) ++ (entry 10 1 0 0 16 ∷ [])
 
 -- 9 and 10 by way of 20 and of 30, and 11 by 30 alone
 abbrev pub drawsLevel : List Call
@@ -88,4 +107,39 @@ histories =
     ∷ history (settings 8 32 64)
     (send ∷ echo 20 1 ∷ ogm 20 10 ∷ make (makeArgs (settings 8 32 64) 0 (1 ∷ [])) ∷ question 900 ∷ make (makeArgs (settings 8 32 64) 1 (1 ∷ [])) ∷ question 900 ∷ send ∷ [])
     (wrote 12 1 ∷ echoTaken ∷ heard 26 0 (via 20 1) ∷ (12 ∷ []) ∷ told (via 20 1) ∷ (0 ∷ []) ∷ told nowhere ∷ wrote 12 1 ∷ [])
+    -- entries: a number inside the window leaves the list, also by another link; a new number replaces it, also where it brings none or is the first below the window
+    ∷ history (settings 8 32 64)
+    (send ∷ echo 20 1 ∷ echo 30 1 ∷ announce 20 900 10 (entry 10 1 0 0 16 ∷ []) ∷ locate (address 10 1 0 7) ∷ announce 30 900 9 (entry 10 2 0 0 16 ∷ []) ∷ announce 30 900 10 (entry 10 2 0 0 16 ∷ []) ∷ locate (address 10 1 0 7) ∷ locate (address 10 2 0 7) ∷ announce 20 900 11 (entry 10 2 0 0 16 ∷ []) ∷ locate (address 10 1 0 7) ∷ locate (address 10 2 0 7) ∷ announce 20 900 12 [] ∷ locate (address 10 2 0 7) ∷ announce 20 900 4 (entry 10 3 0 0 16 ∷ []) ∷ locate (address 10 3 0 7) ∷ [])
+    (wrote 12 1 ∷ echoTaken ∷ echoTaken ∷ heard 26 0 (via 20 1) ∷ serves 900 10 1 0 0 16 ∷ heard 26 0 (via 30 1) ∷ heard 26 0 (via 30 2) ∷ serves 900 10 1 0 0 16 ∷ noneCovers ∷ heard 26 0 (via 20 2) ∷ noneCovers ∷ serves 900 10 2 0 0 16 ∷ heard 26 0 (via 20 3) ∷ noneCovers ∷ heard 26 0 (via 20 1) ∷ serves 900 10 3 0 0 16 ∷ [])
+    -- one that is not counted leaves it: a duplicate, and a new number by a link without a neighbour row
+    ∷ history (settings 8 32 64)
+    (send ∷ echo 20 1 ∷ announce 20 900 10 (entry 10 1 0 0 16 ∷ []) ∷ announce 20 900 10 (entry 10 2 0 0 16 ∷ []) ∷ announce 40 900 11 (entry 10 2 0 0 16 ∷ []) ∷ locate (address 10 1 0 7) ∷ locate (address 10 2 0 7) ∷ [])
+    (wrote 12 1 ∷ echoTaken ∷ heard 26 0 (via 20 1) ∷ heard 26 0 (via 20 1) ∷ heard 25 0 (via 20 1) ∷ serves 900 10 1 0 0 16 ∷ noneCovers ∷ [])
+    -- a lookup goes by the longest mask, of equal masks by the smaller originator, then the earlier entry; bits of the network below the mask don't matter
+    ∷ history (settings 8 32 64)
+    (send ∷ echo 20 1 ∷ locate 0 ∷ announce 20 901 10 (entry 10 9 0 0 8 ∷ entry 10 1 0 0 24 ∷ entry 10 1 0 7 32 ∷ []) ∷ announce 20 900 10 (entry 10 0 0 0 8 ∷ entry 10 1 9 9 16 ∷ entry 10 1 8 8 16 ∷ []) ∷ locate (address 10 1 0 7) ∷ locate (address 10 1 0 6) ∷ locate (address 10 1 1 7) ∷ locate (address 10 2 0 7) ∷ locate (address 11 0 0 0) ∷ locate 0 ∷ [])
+    (wrote 12 1 ∷ echoTaken ∷ noneCovers ∷ heard 26 0 (via 20 1) ∷ heard 26 0 (via 20 1) ∷ serves 901 10 1 0 7 32 ∷ serves 901 10 1 0 0 24 ∷ serves 900 10 1 9 9 16 ∷ serves 900 10 0 0 0 8 ∷ noneCovers ∷ noneCovers ∷ [])
+    -- mask 0 covers every address, 0 among them
+    ∷ history (settings 8 32 64)
+    (send ∷ echo 20 1 ∷ announce 20 900 10 (entry 0 0 0 0 32 ∷ entry 10 1 0 7 0 ∷ []) ∷ locate 0 ∷ locate 1 ∷ locate (address 255 255 255 255) ∷ [])
+    (wrote 12 1 ∷ echoTaken ∷ heard 26 0 (via 20 1) ∷ serves 900 0 0 0 0 32 ∷ serves 900 10 1 0 7 0 ∷ serves 900 10 1 0 7 0 ∷ [])
+    -- a sweep removes the entries with their record, a make all of them
+    ∷ history (settings 8 32 64)
+    (send ∷ echo 20 1 ∷ announce 20 900 10 (entry 10 1 0 0 16 ∷ []) ∷ sweep 640000 ∷ locate (address 10 1 0 7) ∷ sweep 640001 ∷ locate (address 10 1 0 7) ∷ [])
+    (wrote 12 1 ∷ echoTaken ∷ heard 26 0 (via 20 1) ∷ total 0 ∷ serves 900 10 1 0 0 16 ∷ total 1 ∷ noneCovers ∷ [])
+    ∷ history (settings 8 32 64)
+    (send ∷ echo 20 1 ∷ announce 20 900 10 (entry 10 1 0 0 16 ∷ []) ∷ locate (address 10 1 0 7) ∷ make (makeArgs (settings 8 32 64) 1 (1 ∷ [])) ∷ locate (address 10 1 0 7) ∷ [])
+    (wrote 12 1 ∷ echoTaken ∷ heard 26 0 (via 20 1) ∷ serves 900 10 1 0 0 16 ∷ (0 ∷ []) ∷ noneCovers ∷ [])
+    -- 15: 17 entries of an OGM that would make the record or has a new number; nothing changes
+    -- 16 are kept; 17 of one that is counted inside the window, is a duplicate or comes by a link without a neighbour row are not refused
+    ∷ history (settings 8 32 64)
+    (send ∷ echo 20 1 ∷ announce 20 900 10 (lastOf 16) ∷ question 900 ∷ locate (address 10 1 0 7) ∷ announce 20 900 10 (lastOf 15) ∷ locate (address 10 1 0 7) ∷ announce 20 900 11 (lastOf 16) ∷ question 900 ∷ announce 20 900 9 (replicate 17 (entry 10 1 0 0 24)) ∷ announce 20 900 9 (lastOf 16) ∷ announce 40 900 11 (lastOf 16) ∷ locate (address 10 1 0 7) ∷ question 900 ∷ [])
+    (wrote 12 1 ∷ echoTaken ∷ unheard 15 0 ∷ told nowhere ∷ noneCovers ∷ heard 26 0 (via 20 1) ∷ serves 900 10 1 0 0 16 ∷ unheard 15 0 ∷ told (via 20 1) ∷ heard 26 0 (via 20 2) ∷ heard 26 0 (via 20 2) ∷ heard 25 0 (via 20 2) ∷ serves 900 10 1 0 0 16 ∷ told (via 20 2) ∷ [])
+    -- it comes after 10, where capacity is 1, and after 11, where the links by way of 20 to 27 have marks and that of 28 would be the ninth
+    ∷ history (settings 8 32 1)
+    (send ∷ echo 20 1 ∷ announce 20 900 10 [] ∷ announce 20 901 10 (lastOf 16) ∷ [])
+    (wrote 12 1 ∷ echoTaken ∷ heard 26 0 (via 20 1) ∷ unheard 10 0 ∷ [])
+    ∷ history (settings 8 32 64)
+    (send ∷ (map (λ a. echo a 1) (upFrom 20 9) ++ (map (λ a. ogm a 10) (upFrom 20 8) ++ (announce 28 900 11 (lastOf 16) ∷ []))))
+    (wrote 12 1 ∷ (replicate 9 echoTaken ++ (map (λ a. heard 26 0 (via a 1)) (upFrom 20 8) ++ (unheard 11 0 ∷ []))))
     ∷ []

@@ -7,7 +7,7 @@ use Rattle.rules.specs.Settings.{Config}
 use Rattle.rules.specs.Calls.{interfaceOf}
 use Rattle.rules.specs.Rules.{Sends, lastSent}
 use Rattle.rules.specs.Table.{TableRecord, TableRows, TableState}
-use Rattle.history.specs.Book.{Log, latest, current, stays, logBest, heldLinks, Echoes, recent, BookState}
+use Rattle.history.specs.Book.{Log, latest, current, logEntries, stays, logBest, heldLinks, Echoes, recent, BookState}
 
 -- a link's word of marks
 unfoldable pub marksOf : Config → Log → (l : ℕ) → ℕ
@@ -21,6 +21,7 @@ recordOf κ s =
       lastTtl = latest s .ttl;
       best = logBest κ s;
       links = tabulate (marksOf κ s) (heldLinks κ s);
+      entries = logEntries κ s;
     }
 
 -- a row records the number that its interface had sent last at the echo

@@ -1,7 +1,8 @@
--- Laws of `keep`, `all`, `map`, `elem` and `sum`.
+-- Laws of `keep`, `all`, `first`, `map`, `elem` and `sum`.
 use Prim.Native.Nat.{ℕ, zero, suc, _+_, _≤_, _<_}
 use mathlib.Core.Path.{_≡_, refl, sym, ap, ap₂, _∙_}
 use mathlib.Core.Bool.{Bool, true, false, cond, _&&_, _||_, not, and-false, and-comm, and-assoc, or-assoc}
+use mathlib.Core.Option.{Option, some}
 use mathlib.Core.List.{List, [], _∷_, _++_, map}
 use lib.Dec.{ltb, eqb}
 use lib.ListN.{length, getD, take, drop}
@@ -9,7 +10,7 @@ use lib.Seq.{drop-cons}
 use native.Mathlib.Numerals.{add-one}
 use native.Mathlib.Omega.{arith}
 use borrow.Author.Tests.{eqb-true, lt-ltb}
-use Rattle.lists.specs.Lists.{keep, all, elem, sum}
+use Rattle.lists.specs.Lists.{keep, all, first, elem, sum}
 use Rattle.lists.proofs.Tests.{by-test, cond-ap, both, and-left, and-right}
 
 module _ {A : Type 0} where
@@ -123,6 +124,20 @@ module _ {A : Type 0} where
       go x true e b d = refl
       go x false e true d = sym (h x d e)
       go x false e false d = refl
+
+  -- ---- first
+
+  -- what is found is found too under a further test that it passes
+  pub first-also : (p q : A → Bool) (xs : List A) (y : A) → first p xs ≡ some y → q y ≡ true → first (λ x. q x && p x) xs ≡ some y
+  first-also p q [] y h e = absurd (let z : _≡_ {A = ℕ} 0 1 = cc in omega arith)
+  first-also p q (x ∷ xs) y h e = go (p x) h (λ g. first-also p q xs y g e)
+    where
+      rest : Option A
+      rest = first (λ z. q z && p z) xs
+
+      go : (t : Bool) → cond t (some x) (first p xs) ≡ some y → (first p xs ≡ some y → rest ≡ some y) → cond (q x && t) (some x) rest ≡ some y
+      go true g f = let d : x ≡ y = cc in ap (λ (t : Bool). cond (t && true) (some x) rest) (ap q d ∙ e) ∙ g
+      go false g f = ap (λ (t : Bool). cond t (some x) rest) (and-false (q x)) ∙ f g
 
 -- ---- map
 

@@ -21,6 +21,11 @@ abbrev pub keep : {A : Type 0} → (A → Bool) → List A → List A
 keep p [] = []
 keep p (x ∷ xs) = cond (p x) (x ∷ keep p xs) (keep p xs)
 
+-- the first element that passes the test
+abbrev pub first : {A : Type 0} → (A → Bool) → List A → Option A
+first p [] = none
+first p (x ∷ xs) = cond (p x) (some x) (first p xs)
+
 -- every element passes the test
 abbrev pub all : {A : Type 0} → (A → Bool) → List A → Bool
 all p [] = true

@@ -1,6 +1,9 @@
 // The packet check: refusals 5, 6, 7 and 8, in this order, for any octets.
+use wire::ENTRY_SIZE;
 use wire::Fault;
 use wire::HEADER_SIZE;
+use wire::MASK_AT;
+use wire::MASK_MOST;
 use wire::Place;
 use wire::VERSION_AT;
 use wire::refusal;
@@ -16,13 +19,6 @@ ghost use Rattle.wire.specs.Place.{placeOf};
 
 // The most octets of a packet.
 const PACKET_MOST: usize = 1472;
-
-// The octets of an HNA entry, where its mask stands, and the longest that is allowed.
-const ENTRY_SIZE: usize = 5;
-
-const MASK_AT: usize = 4;
-
-const MASK_MOST: u8 = 32;
 
 // An octet as a wide number.
 fn wide(octet: u8) -> u64

@@ -33,7 +33,8 @@ fn read2(packet: &[u8], at: usize) -> u16
     pair(packet[at], packet[at + 1])
 }
 
-fn read4(packet: &[u8], at: usize) -> u32
+// The number of the four octets at a place.
+pub fn read4(packet: &[u8], at: usize) -> u32
     requires { ⌜ at + 3 < length (now packet) ⌝ }
     ensures { λ r. ⌜ r ≡ P.read4 (now (packet .entry)) at ⌝ }
 {

@@ -3,6 +3,7 @@ use batman::Interfaces;
 use script_answers::put_asked;
 use script_answers::put_burst;
 use script_answers::put_cells;
+use script_answers::put_located;
 use script_answers::put_one;
 use script_answers::put_packets;
 use script_answers::put_received;
@@ -176,6 +177,10 @@ fn list(v: &[u64; NUMBERS_MOST], cells: &[u64], text: &mut [u8], used: usize) ->
     put_rows(text, a, filled, links.n)
 }
 
+fn lookup(v: &[u64; NUMBERS_MOST], cells: &[u64], text: &mut [u8], used: usize) -> usize {
+    put_located(text, used, batman::batman_lookup(cells, address(v[0])))
+}
+
 fn check(v: &[u64; NUMBERS_MOST], packet: &[u8], text: &mut [u8], used: usize) -> usize {
     put_one(
         text,
@@ -204,6 +209,7 @@ pub fn make_call(
         Call::Sweep => sweep(v, cells, text, used),
         Call::Best => best(v, cells, text, used),
         Call::List => list(v, cells, text, used),
+        Call::Lookup => lookup(v, cells, text, used),
         Call::Check => check(v, packet, text, used),
         Call::Make => make(v, cells, text, used),
         Call::Size => size(v, text, used),

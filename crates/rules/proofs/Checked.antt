@@ -16,11 +16,13 @@ use Rattle.wire.specs.declared.Header.{Header}
 use Rattle.wire.specs.Layout.{entrySize, maskAt, maskMost}
 use Rattle.wire.specs.Packet.{header, headerOctets, packetOf, isU, isD, unnamed}
 use Rattle.wire.specs.Check.{mask, firstWhere, firstBadMask, hnaFault, packetFault, writtenFault, packetCheck}
+use Rattle.wire.specs.Entries.{entryOf, networkOf, maskOf, entryAt, entriesOf}
 use Rattle.wire.specs.PassOn.{flagsHere, flagsElsewhere, passedOn}
 use Rattle.wire.proofs.Laws.{reads-back, allowed as allowed-written}
 use Rattle.rules.specs.Settings.{settingsOk, allowed, cellsNeeded, makeAllowed}
 use Rattle.rules.specs.Calls.{linkOf, neighbourOf, interfaceOf, refusal}
-use Rattle.rules.specs.Rules.{standsBelow, lastSent, nextNumber, branch, unless, receiveFault, burstFits, ownFault, conclude, receiveEach, takeBurst, answerBest, fillRows, verdict, storeCounted, counted, uncounted, decide, takeEcho, judge, send, purge, step}
+use Rattle.rules.specs.Lookup.{covers, serving}
+use Rattle.rules.specs.Rules.{standsBelow, lastSent, nextNumber, branch, unless, receiveFault, burstFits, ownFault, conclude, receiveEach, takeBurst, answerBest, fillRows, answerLocate, verdict, storeCounted, counted, uncounted, decide, takeEcho, judge, send, purge, step}
 use Rattle.rules.specs.Table.{firstRecord, nextRecord, isMarked, recordEcho, dropOld}
 use Rattle.rules.specs.WellFormed.{wellFormed}
 use Rattle.rules.specs.Examples.{Row, row, reply, examples}
@@ -66,7 +68,7 @@ longest =
 
 -- the test, over both tables
 all-right : (all (right answers says) examples ≡ true) × (all (right answers says) (drop 1 edges) ≡ true)
-unfolding examples edges wellFormed ones onesIn writtenTo distance inside advance bit shift mark word header headerOctets packetOf isU isD unnamed firstWhere firstBadMask hnaFault packetFault writtenFault packetCheck flagsHere flagsElsewhere passedOn settingsOk allowed cellsNeeded makeAllowed linkOf neighbourOf interfaceOf refusal standsBelow lastSent nextNumber branch unless receiveFault burstFits ownFault conclude receiveEach takeBurst answerBest fillRows verdict storeCounted counted uncounted decide takeEcho judge send purge step firstRecord nextRecord isMarked recordEcho dropOld
+unfolding examples edges wellFormed ones onesIn writtenTo distance inside advance bit shift mark word header headerOctets packetOf isU isD unnamed firstWhere firstBadMask hnaFault packetFault writtenFault packetCheck flagsHere flagsElsewhere passedOn settingsOk allowed cellsNeeded makeAllowed linkOf neighbourOf interfaceOf refusal standsBelow lastSent nextNumber branch unless receiveFault burstFits ownFault conclude receiveEach takeBurst answerBest fillRows answerLocate verdict storeCounted counted uncounted decide takeEcho judge send purge step firstRecord nextRecord isMarked recordEcho dropOld entryOf networkOf maskOf entryAt entriesOf covers serving
 all-right = (refl, refl)
 
 -- P1 to P12

@@ -20,15 +20,15 @@ use Rattle.window.proofs.Numbers.{distance-self}
 use Rattle.window.proofs.Window.{laws}
 use Rattle.rules.specs.Settings.{Config, allowed, isAddress, isInUse}
 use Rattle.rules.specs.Calls.{neighbourOf, interfaceOf}
-use Rattle.rules.specs.declared.Ogm.{Ogm}
+use Rattle.rules.specs.Messages.{Message}
 use Rattle.rules.specs.Rules.{sequenceOf}
-use Rattle.rules.specs.Table.{TableRecord, marksAt, isHighest, settle, withLinks, markOn, begun, moveTo, firstRecord, nextRecord}
+use Rattle.rules.specs.Table.{TableRecord, marksAt, isHighest, settle, withLinks, markOn, begun, moveTo, withEntries, entriesThen, firstRecord, nextRecord}
 use Rattle.rules.specs.WellFormed.{linkTests}
 use Rattle.rules.proofs.Config.{window-low}
 
 -- ---- the window once a number is counted
 
-pub sequence-lt : (m : Ogm) → sequenceOf m < numbers
+pub sequence-lt : (m : Message) → sequenceOf m < numbers
 sequence-lt m = omega arith
 
 pub advance-lt : (W c n : ℕ) → c < numbers → n < numbers → advance W c n < numbers
@@ -67,7 +67,7 @@ module _ (κ : Config) where
     pub best : hasKey b ls ≡ true
     pub each : all (λ l. and (linkTests κ b l)) ls ≡ true
 
-  settle-links : (m : Ogm) (v : ℕ) (x : TableRecord) → Rising (x .links) → all fits (x .links) ≡ true → hasKey (m .link) (x .links) ≡ true → hasKey (x .best) (x .links) ≡ true
+  settle-links : (m : Message) (v : ℕ) (x : TableRecord) → Rising (x .links) → all fits (x .links) ≡ true → hasKey (m .link) (x .links) ≡ true → hasKey (x .best) (x .links) ≡ true
       → Links (settle κ m v x .best) (settle κ m v x .links)
   settle-links m v x r f k l =
       by-test (λ t. Links t (keep (λ (e : ℕ × ℕ). hasMark (e .1) || eqb (e .0) t) ls)) (isHighest κ (m .link) v ls) (λ _. at (m .link) k) (λ _. at (x .best) l)
@@ -92,7 +92,7 @@ module _ (κ : Config) where
       go (some v) e = ltb-true v (2 ^ κ .settings .window) (and-at (fitTests (l, v)) (lookup-all fits l v ls h e) 2)
 
   -- the message's link is on an interface in use
-  module _ (hκ : allowed κ ≡ true) (m : Ogm) (ha : isAddress (neighbourOf (m .link)) ≡ true) (hi : isInUse κ (interfaceOf (m .link)) ≡ true) where
+  module _ (hκ : allowed κ ≡ true) (m : Message) (ha : isAddress (neighbourOf (m .link)) ≡ true) (hi : isInUse κ (interfaceOf (m .link)) ≡ true) where
     mark-links : (x : TableRecord) → distance (x .current) (sequenceOf m) < κ .settings .window → Rising (x .links) → all fits (x .links) ≡ true
         → (hasKey (x .best) (x .links) ≡ true) ⊎ (x .best ≡ m .link) → Links (markOn κ m x .best) (markOn κ m x .links)
     mark-links x hc r f k =
@@ -123,7 +123,7 @@ module _ (κ : Config) where
         let W = κ .settings .window in
         let c = advance W (r .current) (sequenceOf m) in
         let d = shift W (distance c (r .current)) in
-        mark-links (moveTo κ c r) (advance-inside W (r .current) (sequenceOf m) (window-low κ hκ)) (rising-mapValues d (r .links) (h .rise))
+        mark-links (withEntries (entriesThen κ m r) (moveTo κ c r)) (advance-inside W (r .current) (sequenceOf m) (window-low κ hκ)) (rising-mapValues d (r .links) (h .rise))
         (all-map (λ (e : ℕ × ℕ). (e .0, d (e .1))) fits (r .links)
         ∙ all-weaken (λ e. and (linkTests κ (r .best) e)) (λ e. fits (e .0, d (e .1))) (λ e g. refit (e .0) (e .1) (d (e .1)) (link-fits (r .best) e g) (laws W .shift-below (distance c (r .current)) (e .1))) (r .links) (h .each))
         (inl (hasKey-mapValues d (r .best) (r .links) ∙ h .best))

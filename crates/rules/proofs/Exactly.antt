@@ -19,9 +19,10 @@ use Rattle.wire.specs.Check.{given, firstOf}
 use Rattle.wire.specs.PassOn.{flagsHere, flagsElsewhere, passedOn}
 use Rattle.wire.proofs.Laws.{reads-back}
 use Rattle.rules.specs.declared.Route.{Route}
-use Rattle.rules.specs.Settings.{neighbourMost, linkMost, ttlLeast, makeAllowed, isInUse}
-use Rattle.rules.specs.Calls.{received, ReceiveArgs, Call, make, receive, burst, own, sweep, question, list, numberOf, isRefusal, isRuleRefusal, receivedAs, Reply, answeredWriting, refusal}
-use Rattle.rules.specs.Rules.{Reading, StateOf, OutcomeOf, branch, unless, receiveFaults, receiveFault, burstFits, ownFault, linkBy, singleHop, message, conclude, ownHeader, withTime, withRecords, routeOf, linkRows, isPassedOn, refuse, answerBest, fillRows, verdict, storeCounted, counted, uncounted, decide, takeEcho, judge, takeBurst, send, purge, step}
+use Rattle.rules.specs.Settings.{neighbourMost, linkMost, entryMost, ttlLeast, makeAllowed, isInUse}
+use Rattle.rules.specs.Calls.{received, ReceiveArgs, Call, make, receive, burst, own, sweep, question, list, locate, numberOf, isRefusal, isRuleRefusal, receivedAs, Reply, answeredWriting, refusal}
+use Rattle.rules.specs.Rules.{Reading, StateOf, OutcomeOf, branch, unless, receiveFaults, receiveFault, burstFits, ownFault, linkBy, singleHop, message, conclude, ownHeader, withTime, withRecords, routeOf, linkRows, isPassedOn, refuse, answerBest, fillRows, verdict, countedFaults, storeCounted, counted, uncounted, decide, takeEcho, judge, takeBurst, send, purge, locatedBy, entriesHeld, answerLocate, step}
+use Rattle.rules.specs.Lookup.{Announced, serving}
 use Rattle.rules.specs.Refusals.{firstThat, Questions, found, questions, countedRecord, wouldEcho, wouldCount, roomFacts, verdicts, taken, facts, outcome, Exactly}
 use Rattle.rules.proofs.Faults.{first-append, first-single, unless-then, numbered, first-numbered, given-numbered, packet-numbered, written-numbered}
 
@@ -55,11 +56,11 @@ module _ (W : Reading) (s : StateOf W) (r : ReceiveArgs) (h : Header) where
   concluded k true x = refl
   concluded k false x = refl
 
-  -- the record a takes its place, unless it has too many links
+  -- the record a takes its place, unless it has too many links or entries
   stored : (f : Bool) (a : W .Record)
-      → storeCounted W s r h f a ≡ unless (firstOf (given (ltb linkMost (length (W .links (s .config) a))) 11 ∷ [])) (refuse W (receive r) s) (record { reply = replied true (isPassedOn W (s .config) r h true f (some a)) (routeOf W (s .config) (some a)); state = withRecords W s (r .time) (put (h .originator) a (s .records)) })
+      → storeCounted W s r h f a ≡ unless (firstOf (countedFaults W (s .config) a)) (refuse W (receive r) s) (record { reply = replied true (isPassedOn W (s .config) r h true f (some a)) (routeOf W (s .config) (some a)); state = withRecords W s (r .time) (put (h .originator) a (s .records)) })
   unfolding storeCounted
-  stored f a = rw (first-single, concluded)
+  stored f a = rw concluded
 
   counted-flat : (f : Bool) (x : Option (W .Record)) → found W s r h ≡ x → counted W s r h f x ≡ last true false f
   unfolding counted
@@ -113,6 +114,7 @@ module _ (W : Reading) (cells : ℕ) (s : StateOf W) where
   flat (own a) = rw (reads-back (ownHeader (s .config) (s .sends) a) (a .hna) .size)
   flat (sweep t) = rw first-single
   flat (question o) = refl
+  flat (locate a) = refl
   flat (list o lent) = rw first-single
 
 module _ (W : Reading) (cells : ℕ) (s : StateOf W) where
@@ -128,7 +130,8 @@ module _ (W : Reading) (cells : ℕ) (s : StateOf W) where
       (both (packet-numbered (s .config .settings .version) (r .packet))
       (both (given-numbered (wouldEcho W s r h q && (not (q .bidirectional) && leb neighbourMost (W .rowsHeld (s .config) (s .rows)))) 9 refl)
       (both (given-numbered (wouldCount W s r h q && (maybe (found W s r h) true (λ a. false) && leb (s .config .settings .capacity) (length (s .records)))) 10 refl)
-      (both (given-numbered (wouldCount W s r h q && ltb linkMost (length (W .links (s .config) (countedRecord W s r h)))) 11 refl) refl))))))
+      (both (given-numbered (wouldCount W s r h q && ltb linkMost (length (W .links (s .config) (countedRecord W s r h)))) 11 refl)
+      (both (given-numbered (wouldCount W s r h q && ltb entryMost (length (W .entries (s .config) (countedRecord W s r h)))) 15 refl) refl)))))))
   facts-numbered (burst a) = both (given-numbered (not (burstFits a)) 14 refl) refl
   facts-numbered (own a) =
       both (given-numbered (not (isInUse (s .config) (a .interface))) 2 refl)
@@ -138,10 +141,11 @@ module _ (W : Reading) (cells : ℕ) (s : StateOf W) where
       (both (given-numbered (ltb (a .ttl) ttlLeast) 13 refl) refl))))
   facts-numbered (sweep t) = both (given-numbered (ltb t (s .time)) 3 refl) refl
   facts-numbered (question o) = refl
+  facts-numbered (locate a) = refl
   facts-numbered (list o lent) = both (given-numbered (ltb (length lent) (length (linkRows W (s .config) (lookup o (s .records))))) 4 refl) refl
 
 pub exactly : (W : Reading) (cells : ℕ) (s : StateOf W) (c : Call) → Exactly W cells s c
-unfolding unless outcome takeBurst send purge answerBest fillRows
+unfolding unless outcome takeBurst send purge answerBest fillRows answerLocate
 exactly W cells s c =
     record {
       refused = λ f e. flat W cells s c ∙ ap (λ x. unless x (refuse W c s) (outcome W cells s c)) e;
@@ -160,6 +164,11 @@ exactly W cells s c =
     number (own a) = refl
     number (sweep t) = refl
     number (question o) = refl
+    number (locate a) = found-number (serving a (entriesHeld W s))
+      where
+        found-number : (x : Option Announced) → isRefusal (numberOf (locatedBy x .answer)) ≡ false
+        found-number none = refl
+        found-number (some y) = refl
     number (list o lent) = refl
 
 pub refusal-number : (c : Call) (f : Fault) → numberOf (refusal c f .answer) ≡ f .number
@@ -170,6 +179,7 @@ refusal-number (burst a) f = refl
 refusal-number (own a) f = refl
 refusal-number (sweep t) f = refl
 refusal-number (question o) f = refl
+refusal-number (locate a) f = refl
 refusal-number (list o lent) f = refl
 
 -- so no call answers 1 by these rules

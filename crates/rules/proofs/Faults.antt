@@ -44,7 +44,7 @@ unless-then none none refuse o = refl
 unless-then none (some f) refuse o = refl
 unless-then (some f) y refuse o = refl
 
--- ---- the numbers of refusals are 2 to 14
+-- ---- the numbers of refusals are 2 to 15
 
 abbrev pub numbered : Option Fault → Bool
 numbered x = maybe x true (λ f. isRuleRefusal (f .number))

@@ -6,6 +6,7 @@ pub mod Links
 pub mod Sends
 pub mod Exactly
 pub mod Bursts
+pub mod Lookup
 pub mod Counting
 pub mod Parts
 pub mod WellFormed

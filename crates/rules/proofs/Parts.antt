@@ -9,11 +9,11 @@ use borrow.Author.Tests.{leb-true, le-leb}
 use Rattle.lists.specs.Lists.{and, all}
 use Rattle.lists.specs.Keyed.{hasKey, rising}
 use Rattle.lists.proofs.Tests.{and-right, and-at, end, also, and-each}
-use Rattle.rules.specs.Settings.{Config, linkMost, isOctet, isAddress, isNumber, isInUse, isOwn, within}
+use Rattle.rules.specs.Settings.{Config, linkMost, entryMost, isOctet, isAddress, isNumber, isInUse, isOwn, within}
 use Rattle.rules.specs.Calls.{neighbourOf, interfaceOf}
 use Rattle.rules.specs.Rules.{Sends, hasSent}
 use Rattle.rules.specs.Table.{TableRecord, rowDistance}
-use Rattle.rules.specs.WellFormed.{rowTests, linkTests, fieldTests, linksTests, recordTests}
+use Rattle.rules.specs.WellFormed.{rowTests, linkTests, fieldTests, linksTests, entriesOk, recordTests}
 
 -- ---- a neighbour row
 
@@ -43,6 +43,8 @@ pub record Entry (κ : Config) (now : ℕ) (e : ℕ × TableRecord) : Type 0 whe
   pub rise : rising (e .1 .links) ≡ true
   pub each : all (λ l. and (linkTests κ (e .1 .best) l)) (e .1 .links) ≡ true
   pub best : hasKey (e .1 .best) (e .1 .links) ≡ true
+  pub fewEntries : leb (length (e .1 .entries)) entryMost ≡ true
+  pub entries : entriesOk (e .1 .entries) ≡ true
 
 module _ (κ : Config) (now : ℕ) (e : ℕ × TableRecord) where
   pub record-parts : and (recordTests κ now e) ≡ true → Entry κ now e
@@ -59,13 +61,15 @@ module _ (κ : Config) (now : ℕ) (e : ℕ × TableRecord) where
         rise = links 0;
         each = links 1;
         best = links 2;
+        fewEntries = fields 6;
+        entries = and-at (recordTests κ now e) h 2;
       }
 
   pub record-whole : Entry κ now e → and (recordTests κ now e) ≡ true
   record-whole p =
-      let fields : and (fieldTests κ now e) ≡ true = and-each (also (p .address) (also (p .foreign) (also (p .current) (also (p .time) (also (p .ttl) (also (p .few) end)))))) in
+      let fields : and (fieldTests κ now e) ≡ true = and-each (also (p .address) (also (p .foreign) (also (p .current) (also (p .time) (also (p .ttl) (also (p .few) (also (p .fewEntries) end))))))) in
       let links : and (linksTests κ (e .1 .best) (e .1 .links)) ≡ true = and-each (also (p .rise) (also (p .each) (also (p .best) end))) in
-      and-each {ts = recordTests κ now e} (also fields (also links end))
+      and-each {ts = recordTests κ now e} (also fields (also links (also (p .entries) end)))
 
   pub few-links : Entry κ now e → length (e .1 .links) ≤ linkMost
   few-links p = let n = length (e .1 .links) in leb-true n linkMost (and-right (leb 1 n) (leb n linkMost) (p .few))
@@ -83,4 +87,6 @@ module _ (κ : Config) (now : ℕ) (e : ℕ × TableRecord) where
         few = p .few;
         best = p .best;
         each = p .each;
+        fewEntries = p .fewEntries;
+        entries = p .entries;
       }

@@ -1,5 +1,5 @@
 -- A fresh table is well-formed, and every call leaves a well-formed table so.
-use Prim.Native.Nat.{ℕ, _≤_, _<_}
+use Prim.Native.Nat.{ℕ, _+_, _*_, _≤_, _<_}
 use mathlib.Core.Path.{_≡_, refl, ap, _∙_}
 use mathlib.Core.Logic.{_⊎_, inl, inr, ⊎-elim}
 use mathlib.Core.Bool.{Bool, true, false, _&&_, _||_, not}
@@ -7,6 +7,7 @@ use mathlib.Core.Option.{Option, none, some}
 use mathlib.Core.List.{List, []}
 use lib.Dec.{ltb, leb, eqb}
 use lib.ListN.{length}
+use lib.Seq.{getD-drop}
 use native.Mathlib.Omega.{arith}
 use borrow.Author.Tests.{ltb-true, ltb-false, eqb-true, lt-ltb, leb-true, leb-false, le-leb, not-false}
 use Rattle.lists.specs.Lists.{maybe, and, keep, all}
@@ -15,19 +16,21 @@ use Rattle.lists.proofs.Tests.{by-test, both, and-left, and-right, and-open, an
 use Rattle.lists.proofs.Lists.{keep-length, all-weaken}
 use Rattle.lists.proofs.Keyed.{length-mapValues, lookup-put-other, hasKey-put, hasKey-length, lookup-all, all-put}
 use Rattle.lists.proofs.Rising.{Rising, rising-in, rising-out, rising-put, Held, held-weaken, held-keep, held-put}
-use Rattle.window.specs.Window.{numbers, distance, count}
+use Rattle.window.specs.Window.{numbers, distance, inside, count}
 use Rattle.window.proofs.Numbers.{distance-self}
 use Rattle.wire.specs.declared.Header.{Header}
-use Rattle.wire.specs.Layout.{ttlAt, originatorAt}
-use Rattle.wire.specs.Packet.{octet, read4, header}
-use Rattle.wire.specs.Check.{firstOf}
-use Rattle.rules.specs.Settings.{Config, configOf, allowed, makeAllowed, neighbourMost, linkMost, interfaceMost, octets, addresses, isOctet, isAddress, isNumber, isTime, isInUse, isOwn}
-use Rattle.rules.specs.Calls.{neighbourOf, interfaceOf, ReceiveArgs, OwnArgs, packetsOf, singleCall, Call, make, receive, burst, own, sweep, question, list}
-use Rattle.rules.specs.declared.Ogm.{Ogm}
-use Rattle.rules.specs.Rules.{sequenceOf, Sends, hasSent, lastSent, nextNumber, sendOn, linkBy, message, echoTests, ownPacket, fresh, isExpired, answerBest, fillRows, receiveOn, takeBurst, send, purge, step}
+use Rattle.wire.specs.Layout.{headerSize, entrySize, maskMost, ttlAt, originatorAt, maskAt}
+use Rattle.wire.specs.Packet.{octet, read4, header, hna}
+use Rattle.wire.specs.Check.{firstOf, entries, mask, hnaFaults, hnaFault, packetFaults, packetFault}
+use Rattle.wire.specs.Entries.{entryAt}
+use Rattle.wire.proofs.Entries.{network-of, mask-of, all-entries, masks-low}
+use Rattle.rules.specs.Settings.{Config, configOf, allowed, makeAllowed, neighbourMost, linkMost, entryMost, interfaceMost, octets, addresses, isOctet, isAddress, isNumber, isTime, isInUse, isOwn}
+use Rattle.rules.specs.Calls.{neighbourOf, interfaceOf, ReceiveArgs, OwnArgs, packetsOf, singleCall, Call, make, receive, burst, own, sweep, question, list, locate}
+use Rattle.rules.specs.Messages.{Message}
+use Rattle.rules.specs.Rules.{sequenceOf, Sends, hasSent, lastSent, nextNumber, sendOn, linkBy, message, echoTests, ownPacket, fresh, isExpired, answerBest, fillRows, answerLocate, receiveOn, takeBurst, send, purge, step}
 use Rattle.rules.specs.Table.{TableRecord, TableState, firstRecord, nextRecord, recordEcho, rowDistance, dropOld, table}
 use Rattle.rules.specs.Refusals.{Questions, found, questions, countedRecord, foreign, wouldEcho, wouldCount, facts, outcome}
-use Rattle.rules.specs.WellFormed.{sendTests, rowTests, recordTests, tableTests, wellFormed, receiveTypes, typed}
+use Rattle.rules.specs.WellFormed.{sendTests, rowTests, entryTests, entriesOk, recordTests, tableTests, wellFormed, receiveTypes, typed}
 use Rattle.rules.proofs.Faults.{none-at, not-given}
 use Rattle.rules.proofs.Config.{make-allowed, timeout-low, interfaces-high}
 use Rattle.rules.proofs.Links.{neighbour-of, interface-of}
@@ -169,7 +172,7 @@ module _ (cells : ℕ) (s : TableState) (w : Wf s) (r : ReceiveArgs) (t : typed 
   abbrev q : Questions
   q = questions table s r h
 
-  abbrev m : Ogm
+  abbrev m : Message
   m = message r h
 
   -- none of its facts holds
@@ -205,6 +208,13 @@ module _ (cells : ℕ) (s : TableState) (w : Wf s) (r : ReceiveArgs) (t : typed 
       let x = not-given (wouldCount table s r h q && ltb linkMost (length (mapValues count ls))) 11 (none-at (facts table cells s (receive r)) n 6) in
       omega (arith, ltb-false linkMost (length (mapValues count ls)) (and-open (wouldCount table s r h q) (ltb linkMost (length (mapValues count ls))) x e), length-mapValues count ls)
 
+  entries-most : wouldCount table s r h q ≡ true → length (countedRecord table s r h .entries) ≤ entryMost
+  unfolding facts
+  entries-most e =
+      let n₀ = length (countedRecord table s r h .entries) in
+      let x = not-given (wouldCount table s r h q && ltb entryMost n₀) 15 (none-at (facts table cells s (receive r)) n 7) in
+      ltb-false entryMost n₀ (and-open (wouldCount table s r h q) (ltb entryMost n₀) x e)
+
   -- its type and refusal 2 give the ranges of its fields
   interface-lt : r .interface < interfaceMost
   interface-lt = let x = ltb-true (r .interface) (length (κ .interfaces)) in-use in let y = interfaces-high κ (w .allowed) in omega arith
@@ -229,6 +239,33 @@ module _ (cells : ℕ) (s : TableState) (w : Wf s) (r : ReceiveArgs) (t : typed 
   ttl : isOctet (h .ttl) ≡ true
   unfolding header
   ttl = lt-ltb (octet (r .packet) ttlAt) octets (octet-lt ttlAt)
+
+  -- no mask is above 32, by refusal 8
+  masks : (k : ℕ) → k < entries (hna (r .packet)) → mask (hna (r .packet)) k ≤ maskMost
+  unfolding facts packetFault hnaFault
+  masks =
+      let v = s .config .settings .version in
+      masks-low (hna (r .packet)) (none-at (hnaFaults (hna (r .packet))) (none-at (packetFaults v (r .packet)) (none-at (facts table cells s (receive r)) n 3) 2) 1)
+
+  message-entries : entriesOk (m .entries) ≡ true
+  unfolding entryAt
+  message-entries = all-entries (λ e. and (entryTests e)) e each
+    where
+      e : List ℕ
+      e = hna (r .packet)
+
+      entry-octet : (k : ℕ) → octet e k < octets
+      entry-octet k = rw (getD-drop headerSize (r .packet) k 0) (octet-lt (headerSize + k))
+
+      each : (k : ℕ) → k < entries e → and (entryTests (entryAt e k)) ≡ true
+      each k l =
+          let a = entrySize * k in
+          let n₀ = read4 e a in
+          let small : mask e k < 256 = entry-octet (entrySize * k + maskAt) in
+          let address : n₀ < addresses = omega (arith, entry-octet a, entry-octet (a + 1), entry-octet (a + 2), entry-octet (a + 2 + 1)) in
+          and-each {ts = entryTests (entryAt e k)}
+          (also (ap isAddress (network-of n₀ (mask e k) small) ∙ lt-ltb n₀ addresses address)
+          (also (ap (λ x. leb x maskMost) (mask-of n₀ (mask e k) small) ∙ le-leb (mask e k) maskMost (masks k l)) end))
 
   -- an echo's row
   echoed : wouldEcho table s r h q ≡ true → Held (λ e. and (rowTests κ (s .sends) e)) neighbourMost (recordEcho κ (s .sends) (linkBy r) (s .rows))
@@ -263,6 +300,13 @@ module _ (cells : ℕ) (s : TableState) (w : Wf s) (r : ReceiveArgs) (t : typed 
         next-links κ (w .allowed) m sender interface a (record { rise = rising-in (a .links) (p .rise); best = p .best; each = p .each }),
       )
 
+  counted-entries : (x : Option TableRecord) → found table s r h ≡ x → entriesOk (maybe x (firstRecord κ m) (nextRecord κ m) .entries) ≡ true
+  unfolding firstRecord nextRecord
+  counted-entries none e = message-entries
+  counted-entries (some a) e =
+      let p = record-parts κ (s .time) (h .originator, a) (lookup-all (λ x. and (recordTests κ (s .time) x)) (h .originator) a (s .records) (w .records .each) e) in
+      by-test (λ es. entriesOk es ≡ true) (inside (κ .settings .window) (a .current) (sequenceOf m)) (λ _. p .entries) (λ _. message-entries)
+
   stamped : (x : Option TableRecord) → (maybe x (firstRecord κ m) (nextRecord κ m) .time ≡ r .time) × (maybe x (firstRecord κ m) (nextRecord κ m) .lastTtl ≡ h .ttl)
   unfolding firstRecord nextRecord
   stamped none = (refl, refl)
@@ -288,6 +332,8 @@ module _ (cells : ℕ) (s : TableState) (w : Wf s) (r : ReceiveArgs) (t : typed 
         few = both (le-leb 1 (length (a .links)) some-link) (le-leb (length (a .links)) linkMost (links-most e));
         best = x .1 .best;
         each = x .1 .each;
+        fewEntries = le-leb (length (a .entries)) entryMost (entries-most e);
+        entries = counted-entries (found table s r h) refl;
       }))
       (record-room e)
     where
@@ -316,7 +362,7 @@ one-wf cells s r t w = step-keeps table cells Wf s (receive r) w (received-wf ce
 
 module _ (cells : ℕ) (s : TableState) (w : Wf s) where
   taken-wf : (c : Call) → typed c ≡ true → firstOf (facts table cells s c) ≡ none → Wf (outcome table cells s c .state)
-  unfolding facts outcome takeBurst answerBest fillRows
+  unfolding facts outcome takeBurst answerBest fillRows answerLocate
   taken-wf (make a) t n = fresh-wf (configOf a) (make-allowed cells a (not-false (makeAllowed cells a) (not-given (not (makeAllowed cells a)) 12 (none-at (facts table cells s (make a)) n 0))))
   taken-wf (receive r) t n = received-wf cells s w r t n
   taken-wf (burst a) t n = each-keeps _ Wf (a .time) (λ p. typed (receive (singleCall (a .time) [] p))) (λ x o p h. one-wf cells x (singleCall (a .time) o p) h) (packetsOf a) (packets-typed a t) s (a .output) w
@@ -326,6 +372,7 @@ module _ (cells : ℕ) (s : TableState) (w : Wf s) where
       (ltb-false (a .time) (s .time) (not-given (ltb (a .time) (s .time)) 3 (at 1)))
   taken-wf (sweep u) t n = purged s w u t (ltb-false u (s .time) (not-given (ltb u (s .time)) 3 (none-at (facts table cells s (sweep u)) n 0)))
   taken-wf (question o) t n = w
+  taken-wf (locate a) t n = w
   taken-wf (list o lent) t n = w
 
   pub step-wf : (c : Call) → typed c ≡ true → Wf (step table cells s c .state)

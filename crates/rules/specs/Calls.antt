@@ -12,6 +12,7 @@ use Rattle.rules.specs.declared.Written.{Written}
 use Rattle.rules.specs.declared.Swept.{Swept}
 use Rattle.rules.specs.declared.Asked.{Asked}
 use Rattle.rules.specs.declared.Listed.{Listed}
+use Rattle.rules.specs.declared.Located.{Located}
 use Rattle.rules.specs.Settings.{MakeArgs, interfaceMost, addresses, within}
 
 -- ---- links
@@ -91,6 +92,8 @@ pub data Call : Type 0 where
   question : (originator : ℕ) → Call
   -- with the lent rows as they stand
   list : (originator : ℕ) → List LinkRow → Call
+  -- the lookup
+  locate : (address : ℕ) → Call
 
 -- ---- answers
 
@@ -103,6 +106,7 @@ pub data Answer : Type 0 where
   swept : Swept → Answer
   asked : Asked → Answer
   listed : Listed → Answer
+  located : Located → Answer
 
 abbrev pub numberOf : Answer → ℕ
 numberOf (made n) = n
@@ -112,10 +116,11 @@ numberOf (written a) = a .number
 numberOf (swept a) = a .number
 numberOf (asked a) = a .number
 numberOf (listed a) = a .number
+numberOf (located a) = a .number
 
 -- a number that refuses; 1 is asked of the cells, so the rules give the others
 abbrev pub refusalMost : ℕ
-refusalMost = 14
+refusalMost = 15
 
 abbrev pub isRefusal : ℕ → Bool
 isRefusal n = within 1 refusalMost n
@@ -144,6 +149,10 @@ burstAs n w = record { number = n; written = w }
 -- an own packet's: 0 or a refusal, the place that 8 carries, the packet's length and number
 abbrev pub writtenAs : (number place length sequence : ℕ) → Written
 writtenAs n p l m = record { number = n; place = p; length = l; sequence = m }
+
+-- the lookup's: 0 or a refusal, whether an entry was found, and the originator and the entry, its network as announced and its mask
+abbrev pub locatedAs : (number found originator network mask : ℕ) → Located
+locatedAs n f o a m = record { number = n; found = f; originator = o; network = a; mask = m }
 
 -- ---- replies
 
@@ -180,3 +189,4 @@ refusal (own a) f = answeredWriting (written (writtenAs (f .number) (f .place) 0
 refusal (sweep t) f = answered (swept (record { number = f .number; removed = 0 }))
 refusal (question o) f = answered (asked (record { number = f .number; route = noRoute }))
 refusal (list o rs) f = answeredFilling (listed (record { number = f .number; filled = 0 })) rs
+refusal (locate a) f = answered (located (locatedAs (f .number) 0 0 0 0))

@@ -6,10 +6,10 @@ use lib.ListN.{replicate}
 use Rattle.rules.specs.declared.Settings.{Settings}
 use Rattle.rules.specs.declared.LinkRow.{LinkRow}
 use Rattle.rules.specs.Settings.{newestWins, presentStays, MakeArgs, defaults, cellsNeeded}
-use Rattle.rules.specs.Calls.{linkOf, Call, make, receive, burst, own, sweep, question, list}
+use Rattle.rules.specs.Calls.{linkOf, Call, make, receive, burst, own, sweep, question, list, locate}
 use Rattle.rules.specs.Rules.{fresh}
-use Rattle.rules.specs.Table.{TableRecord, TableState, table}
-use Rattle.rules.specs.Examples.{Case, passes, sends, checks, makes, plays, leaves, refuses, formed, address, interface, settingsBy, settings, config, stage, recordWith, packet, unanswered, bundle, hearAll, hear, write, nowhere, via, heard, unheard, wrote, unwritten, total, refused, bundled, told, joined, Row, row}
+use Rattle.rules.specs.Table.{TableRecord, TableState, withEntries, table}
+use Rattle.rules.specs.Examples.{Case, passes, sends, checks, makes, plays, leaves, refuses, formed, address, interface, settingsBy, settings, config, stage, recordWith, packet, bundle, hearAll, hear, write, nowhere, via, heard, unheard, wrote, unwritten, total, refused, bundled, told, found, unfound, joined, Row, row}
 
 -- ---- packets, settings and tables
 
@@ -93,7 +93,7 @@ abbrev pub records : (capacity : ℕ) → List (ℕ × TableRecord) → TableSta
 records n es = stage (settings 8 32 n) [] es
 
 abbrev pub fields : (current time ttl best : ℕ) → (links : List (ℕ × ℕ)) → TableState
-fields c t l b ls = records 64 ((900, record { current = c; time = t; lastTtl = l; best = b; links = ls }) ∷ [])
+fields c t l b ls = records 64 ((900, record { current = c; time = t; lastTtl = l; best = b; links = ls; entries = [] }) ∷ [])
 
 -- two links through neighbour 20, one by each interface; the second's is best
 abbrev pub double : TableState
@@ -113,6 +113,37 @@ eleven n = packet (768 + n) 0 50 11
 
 abbrev pub elevenPassed : (low : ℕ) → List ℕ
 elevenPassed n = 4 ∷ 0 ∷ 49 ∷ 0 ∷ 0 ∷ 11 ∷ 0 ∷ 0 ∷ 0 ∷ 0 ∷ 3 ∷ n ∷ []
+
+-- an entry as a record keeps it
+abbrev pub kept : (network mask : ℕ) → ℕ
+kept a m = a * 256 + m
+
+-- these originators keep these entries each, and neighbours 20, 28 and 30 have rows
+abbrev pub announcing : List (ℕ × List ℕ) → TableState
+announcing xs = stage (settings 8 32 64) (20 ∷ 28 ∷ 30 ∷ []) (map (λ (e : ℕ × List ℕ). (e .0, withEntries (e .1) one)) xs)
+
+-- originator 900 keeps one entry
+abbrev pub alone : (network mask : ℕ) → TableState
+alone a m = announcing ((900, kept a m ∷ []) ∷ [])
+
+-- originator 900 keeps the network 10.0.0.0 with mask 8
+abbrev pub keeper : TableState
+keeper = alone (address 10 0 0 0) 8
+
+-- an OGM of originator 900 with number n and these HNA octets
+abbrev pub brings : (n : ℕ) → (hna : List ℕ) → List ℕ
+brings n e = packet 900 0 50 n ++ e
+
+-- the HNA octets of an entry, the network 11.0.0.0 with mask 8, and those of the same entry so many times
+abbrev pub entryEleven : List ℕ
+entryEleven = 11 ∷ 0 ∷ 0 ∷ 0 ∷ 8 ∷ []
+
+abbrev pub repeated : ℕ → List ℕ
+repeated n = joined (replicate n entryEleven)
+
+-- the lookup of an address in the network 10.0.0.0
+abbrev pub inTen : Call
+inTen = locate (address 10 1 2 3)
 
 abbrev pub blank : LinkRow
 blank = record { neighbour = 9; interface = 9; count = 9; window = 9; best = 0 }
@@ -211,6 +242,48 @@ edges =
     -- 11: a ninth link; it comes in where another loses its last mark and isn't best, and not where that one is best
     ∷ play (eight 22 (3 ∷ []) (10 ∷ [])) (hear 28 0 0 12 (packet 900 0 50 10) ∷ hear 28 0 0 12 (packet 900 0 50 11) ∷ list 900 (replicate 8 blank) ∷ []) (unheard 11 0 ∷ heard 26 0 (via 28 1) ∷ total 8 ∷ [])
     ∷ play (eight 20 (3 ∷ []) (9 ∷ 10 ∷ [])) (hear 28 0 0 12 (packet 900 0 50 11) ∷ []) (unheard 11 0 ∷ [])
+    -- an entry's octets: the network before the mask, high octet first, answered as announced; the entries behind it
+    ∷ play empty (hear 20 0 0 17 relayed ∷ locate (address 1 2 3 9) ∷ locate (address 1 2 4 4) ∷ []) (heard 26 5 (via 20 1) ∷ found 900 (address 1 2 3 4) 24 ∷ unfound ∷ [])
+    ∷ play empty
+    (hear 20 0 0 27 (brings 10 (10 ∷ 9 ∷ 0 ∷ 0 ∷ 8 ∷ 10 ∷ 1 ∷ 0 ∷ 0 ∷ 16 ∷ 11 ∷ 0 ∷ 0 ∷ 1 ∷ 32 ∷ [])) ∷ locate (address 10 2 0 0) ∷ inTen ∷ locate (address 11 0 0 1) ∷ [])
+    (heard 26 0 (via 20 1) ∷ found 900 (address 10 9 0 0) 8 ∷ found 900 (address 10 1 0 0) 16 ∷ found 900 (address 11 0 0 1) 32 ∷ [])
+    -- masks 0, 1, 8, 24, 31 and 32: the first and the last address covered, and one beyond each; bits of the network below the mask are set
+    ∷ play (alone (address 1 2 3 4) 0) (locate 0 ∷ locate 4294967295 ∷ []) (found 900 (address 1 2 3 4) 0 ∷ found 900 (address 1 2 3 4) 0 ∷ [])
+    ∷ play (alone (address 255 2 3 4) 1) (locate (address 127 255 255 255) ∷ locate (address 128 0 0 0) ∷ []) (unfound ∷ found 900 (address 255 2 3 4) 1 ∷ [])
+    ∷ play (alone (address 10 9 8 7) 8) (locate (address 9 255 255 255) ∷ locate (address 10 0 0 0) ∷ locate (address 10 255 255 255) ∷ locate (address 11 0 0 0) ∷ []) (unfound ∷ found 900 (address 10 9 8 7) 8 ∷ found 900 (address 10 9 8 7) 8 ∷ unfound ∷ [])
+    ∷ play (alone (address 10 0 1 77) 24) (locate (address 10 0 0 255) ∷ locate (address 10 0 1 0) ∷ locate (address 10 0 1 255) ∷ locate (address 10 0 2 0) ∷ []) (unfound ∷ found 900 (address 10 0 1 77) 24 ∷ found 900 (address 10 0 1 77) 24 ∷ unfound ∷ [])
+    ∷ play (alone (address 10 0 0 3) 31) (locate (address 10 0 0 1) ∷ locate (address 10 0 0 2) ∷ locate (address 10 0 0 3) ∷ locate (address 10 0 0 4) ∷ []) (unfound ∷ found 900 (address 10 0 0 3) 31 ∷ found 900 (address 10 0 0 3) 31 ∷ unfound ∷ [])
+    ∷ play (alone (address 10 0 0 3) 32) (locate (address 10 0 0 2) ∷ locate (address 10 0 0 3) ∷ locate (address 10 0 0 4) ∷ []) (unfound ∷ found 900 (address 10 0 0 3) 32 ∷ unfound ∷ [])
+    -- the longest mask, whichever originator has it, and wherever it stands in the list
+    ∷ play (announcing ((899, kept (address 10 0 0 0) 8 ∷ []) ∷ (900, kept (address 10 1 0 0) 16 ∷ []) ∷ [])) (inTen ∷ []) (found 900 (address 10 1 0 0) 16 ∷ [])
+    ∷ play (announcing ((899, kept (address 10 1 0 0) 16 ∷ []) ∷ (900, kept (address 10 0 0 0) 8 ∷ []) ∷ [])) (inTen ∷ []) (found 899 (address 10 1 0 0) 16 ∷ [])
+    ∷ play (announcing ((900, kept (address 10 0 0 0) 8 ∷ kept (address 10 1 2 0) 24 ∷ kept (address 10 1 0 0) 16 ∷ []) ∷ [])) (inTen ∷ []) (found 900 (address 10 1 2 0) 24 ∷ [])
+    -- of equal masks the smaller originator, though its entry stands later in its list; then the earlier entry, though its network is the greater
+    ∷ play (announcing ((899, kept (address 11 0 0 0) 8 ∷ kept (address 10 0 0 1) 8 ∷ []) ∷ (900, kept (address 10 0 0 0) 8 ∷ []) ∷ [])) (inTen ∷ []) (found 899 (address 10 0 0 1) 8 ∷ [])
+    ∷ play (announcing ((899, []) ∷ (900, kept (address 10 0 0 2) 8 ∷ kept (address 10 0 0 1) 8 ∷ []) ∷ [])) (inTen ∷ []) (found 900 (address 10 0 0 2) 8 ∷ [])
+    -- none: no originator, no entry, none that covers; address 0, of originator 0, is found
+    ∷ play (announcing []) (locate 0 ∷ []) (unfound ∷ [])
+    ∷ play (announcing ((900, []) ∷ [])) (locate 0 ∷ []) (unfound ∷ [])
+    ∷ play (announcing ((0, kept 0 0 ∷ []) ∷ [])) (locate 0 ∷ []) (found 0 0 0 ∷ [])
+    -- a new number's entries replace the list, also where it has none, or lies below the window; one inside the window, or not counted, leaves it
+    ∷ play keeper (hear 20 0 0 17 (brings 11 entryEleven) ∷ inTen ∷ locate (address 11 1 2 3) ∷ []) (heard 26 0 (via 20 2) ∷ unfound ∷ found 900 (address 11 0 0 0) 8 ∷ [])
+    ∷ play keeper (hear 20 0 0 12 (brings 11 []) ∷ inTen ∷ []) (heard 26 0 (via 20 2) ∷ unfound ∷ [])
+    ∷ play keeper (hear 20 0 0 17 (brings 2 entryEleven) ∷ inTen ∷ []) (heard 26 0 (via 20 1) ∷ unfound ∷ [])
+    ∷ play keeper (hear 20 0 0 17 (brings 3 entryEleven) ∷ inTen ∷ locate (address 11 1 2 3) ∷ []) (heard 26 0 (via 20 2) ∷ found 900 (address 10 0 0 0) 8 ∷ unfound ∷ [])
+    ∷ play keeper (hear 30 0 0 17 (brings 10 entryEleven) ∷ hear 50 0 0 17 (brings 11 entryEleven) ∷ inTen ∷ []) (heard 26 0 (via 30 1) ∷ heard 25 0 (via 30 1) ∷ found 900 (address 10 0 0 0) 8 ∷ [])
+    -- the other originators' lists stay; a sweep removes a record's with it
+    ∷ play keeper (hear 20 0 1 17 (packet 901 0 50 10 ++ entryEleven) ∷ inTen ∷ sweep 640001 ∷ inTen ∷ locate (address 11 1 2 3) ∷ [])
+    (heard 26 0 (via 20 1) ∷ found 900 (address 10 0 0 0) 8 ∷ total 1 ∷ unfound ∷ found 901 (address 11 0 0 0) 8 ∷ [])
+    -- 15: 16 and 17 entries, repeats among them, where the first message makes the record and where a number is new; it changes nothing
+    ∷ play empty (hear 20 0 9 97 (brings 10 (repeated 17)) ∷ sweep 8 ∷ question 900 ∷ hear 20 0 9 92 (brings 10 (repeated 16)) ∷ []) (unheard 15 0 ∷ total 0 ∷ told nowhere ∷ heard 26 0 (via 20 1) ∷ [])
+    ∷ play keeper (hear 20 0 9 97 (brings 11 (repeated 17)) ∷ hear 20 0 9 97 (brings 2 (repeated 17)) ∷ sweep 8 ∷ question 900 ∷ inTen ∷ hear 20 0 9 92 (brings 11 (repeated 16)) ∷ []) (unheard 15 0 ∷ unheard 15 0 ∷ total 0 ∷ told (via 20 1) ∷ found 900 (address 10 0 0 0) 8 ∷ heard 26 0 (via 20 2) ∷ [])
+    ∷ row (leaves empty (receive (record { packet = brings 10 (repeated 17); sender = 20; interface = 0; time = 0; output = replicate 97 9 }))) (replicate 97 9)
+    -- not where the list would stay: inside the window, a duplicate, no neighbour row, verdict 24
+    ∷ play keeper (hear 20 0 0 97 (brings 3 (repeated 17)) ∷ hear 20 0 0 97 (brings 10 (repeated 17)) ∷ inTen ∷ []) (heard 26 0 (via 20 2) ∷ heard 26 0 (via 20 2) ∷ found 900 (address 10 0 0 0) 8 ∷ [])
+    ∷ play keeper (hear 50 0 0 97 (brings 11 (repeated 17)) ∷ hear 20 0 0 97 (packet 900 128 50 11 ++ repeated 17) ∷ hear 50 0 0 97 (packet 901 0 50 11 ++ repeated 17) ∷ []) (heard 25 0 (via 20 1) ∷ heard 24 0 (via 20 1) ∷ heard 25 0 nowhere ∷ [])
+    -- 10 and 11 before it
+    ∷ play (held 1 10 20 ((20, 10 ∷ []) ∷ [])) (hear 20 0 0 97 (packet 901 0 50 11 ++ repeated 17) ∷ []) (unheard 10 0 ∷ [])
+    ∷ play (eight 20 (3 ∷ []) (9 ∷ 10 ∷ [])) (hear 28 0 0 97 (brings 11 (repeated 17)) ∷ []) (unheard 11 0 ∷ [])
     -- list: as many rows as links and one fewer; an unknown originator; the rows whole
     ∷ play single (list 900 (blank ∷ []) ∷ list 900 [] ∷ list 901 [] ∷ []) (total 1 ∷ refused 4 ∷ total 0 ∷ [])
     ∷ row (leaves (held 64 10 20 ((20, 9 ∷ 10 ∷ []) ∷ (40, 10 ∷ []) ∷ [])) (list 900 (replicate 3 blank)))
@@ -297,6 +370,12 @@ edges =
     ∷ row (formed (fields 10 0 50 84 ((80, 0) ∷ (84, 1) ∷ []))) (0 ∷ [])
     ∷ row (formed (fields 10 0 50 81 ((80, 1) ∷ []))) (0 ∷ [])
     ∷ row (formed (fields 10 0 50 80 ((80, 256) ∷ []))) (0 ∷ [])
+    -- at most 16 entries, each a network of four octets and a mask of at most 32
+    ∷ row (formed (announcing ((900, replicate 16 0) ∷ []))) (1 ∷ [])
+    ∷ row (formed (announcing ((900, replicate 17 0) ∷ []))) (0 ∷ [])
+    ∷ row (formed (announcing ((900, 0 ∷ kept 4294967295 32 ∷ []) ∷ []))) (1 ∷ [])
+    ∷ row (formed (announcing ((900, 0 ∷ kept 4294967295 33 ∷ []) ∷ []))) (0 ∷ [])
+    ∷ row (formed (announcing ((900, 0 ∷ kept 4294967296 0 ∷ []) ∷ []))) (0 ∷ [])
     -- the tie is 0 or 1
     ∷ row (formed (heldBy presentStays 64 10 20 level)) (1 ∷ [])
     ∷ row (formed (heldBy 2 64 10 20 level)) (0 ∷ [])
@@ -330,8 +409,11 @@ edges =
     ∷ row (triedRow 4294967296 1 1) (12 ∷ [])
     ∷ row (triedRow 1 4294967296 1) (12 ∷ [])
     ∷ row (triedRow 1 1 65536) (12 ∷ [])
-    -- the number of cells that 64 originators need, one fewer and one more; a refused make changes nothing
-    ∷ row (makes (cellsNeeded 64) (makeArgs defaults 1 (1 ∷ []))) (0 ∷ [])
+    -- the number of cells for 1, 64 and 256 originators
+    ∷ row (makes 133 (makeArgs (six 4 64 32 640000 1 presentStays) 1 (1 ∷ []))) (0 ∷ [])
+    ∷ row (makes 2590 (makeArgs defaults 1 (1 ∷ []))) (0 ∷ [])
+    ∷ row (makes 10078 (makeArgs (six 4 64 32 640000 256 presentStays) 1 (1 ∷ []))) (0 ∷ [])
+    -- one fewer and one more than 64 originators need; a refused make changes nothing
     ∷ row (makes (cellsNeeded 64 - 1) (makeArgs defaults 1 (1 ∷ []))) (12 ∷ [])
     ∷ row (makes (cellsNeeded 64 + 1) (makeArgs defaults 1 (1 ∷ []))) (12 ∷ [])
     ∷ play single (make (makeArgs defaults 1 (1 ∷ [])) ∷ question 900 ∷ []) ((12 ∷ []) ∷ told (via 20 1) ∷ [])
@@ -377,4 +459,5 @@ edges =
     ∷ row (refuses (sweep 7) 1 0) (1 ∷ 0 ∷ [])
     ∷ row (refuses (question 900) 1 0) (1 ∷ 0 ∷ 0 ∷ 0 ∷ 0 ∷ [])
     ∷ row (refuses (list 900 (blank ∷ [])) 1 0) (1 ∷ 0 ∷ 9 ∷ 9 ∷ 9 ∷ 9 ∷ 0 ∷ [])
+    ∷ row (refuses (locate 900) 1 0) (1 ∷ 0 ∷ 0 ∷ 0 ∷ 0 ∷ [])
     ∷ []

@@ -16,7 +16,7 @@ use Rattle.rules.specs.declared.LinkRow.{LinkRow}
 use Rattle.rules.specs.declared.Received.{Received}
 use Rattle.rules.specs.declared.Route.{Route}
 use Rattle.rules.specs.Settings.{newestWins, presentStays, MakeArgs, Config}
-use Rattle.rules.specs.Calls.{linkOf, neighbourOf, Answer, made, received, burstReceived, written, swept, asked, listed, receivedAs, BurstArgs, Call, make, receive, burst, own, Reply, refusal}
+use Rattle.rules.specs.Calls.{linkOf, neighbourOf, Answer, made, received, burstReceived, written, swept, asked, listed, located, receivedAs, BurstArgs, Call, make, receive, burst, own, Reply, refusal}
 use Rattle.rules.specs.Rules.{Reading, StateOf, fresh, step}
 use Rattle.rules.specs.Table.{TableRecord, TableState, rowDistance, table}
 use Rattle.rules.specs.WellFormed.{wellFormed}
@@ -86,6 +86,7 @@ recordWith W c b t ls =
       lastTtl = 50;
       best = linkOf b 0;
       links = map (λ (e : ℕ × List ℕ). (linkOf (e .0) 0, word W (λ k. elem (distance c k) (e .1)))) ls;
+      entries = [];
     }
 
 abbrev pub packet : (originator flags ttl n : ℕ) → List ℕ
@@ -138,6 +139,7 @@ answerShown (written a) = a .number ∷ a .place ∷ a .length ∷ a .sequence �
 answerShown (swept a) = a .number ∷ a .removed ∷ []
 answerShown (asked a) = a .number ∷ routeShown (a .route)
 answerShown (listed a) = a .number ∷ a .filled ∷ []
+answerShown (located a) = a .number ∷ a .found ∷ a .originator ∷ a .network ∷ a .mask ∷ []
 
 abbrev pub rowsShown : List LinkRow → List ℕ
 rowsShown [] = []
@@ -215,6 +217,13 @@ bundled w = 0 ∷ w ∷ []
 -- what the best question answers
 abbrev pub told : (route : List ℕ) → List ℕ
 told x = 0 ∷ x
+
+-- what the lookup answers: the originator and entry that serve the address; or none
+abbrev pub found : (originator network mask : ℕ) → List ℕ
+found o a m = 0 ∷ 1 ∷ o ∷ a ∷ m ∷ []
+
+abbrev pub unfound : List ℕ
+unfound = 0 ∷ 0 ∷ 0 ∷ 0 ∷ 0 ∷ []
 
 -- ---- P1 to P12; A is neighbour 20, B is 30, C is 40. Where a link is counted in a record that is held, the row names the tie
 

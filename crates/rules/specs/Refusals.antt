@@ -15,9 +15,10 @@ use Rattle.wire.specs.Layout.{headerSize}
 use Rattle.wire.specs.Packet.{header, isU}
 use Rattle.wire.specs.Check.{given, firstOf, packetFault, writtenFault}
 use Rattle.wire.specs.PassOn.{flagsHere, flagsElsewhere, passedOn}
-use Rattle.rules.specs.Settings.{neighbourMost, linkMost, ttlLeast, makeAllowed, isInUse, isOwn, isBroadcast}
-use Rattle.rules.specs.Calls.{received, ReceiveArgs, Call, make, receive, burst, own, sweep, question, list, numberOf, isRefusal, isRuleRefusal, receivedAs, answeredWriting}
-use Rattle.rules.specs.Rules.{Reading, StateOf, OutcomeOf, linkBy, singleHop, message, isEcho, isDuplicate, isFresh, isBestBy, ownPacket, routeOf, linkRows, refuse, begin, burstFits, takeBurst, send, purge, answerBest, fillRows, step}
+use Rattle.rules.specs.Settings.{neighbourMost, linkMost, entryMost, ttlLeast, makeAllowed, isInUse, isOwn, isBroadcast}
+use Rattle.rules.specs.Calls.{received, ReceiveArgs, Call, make, receive, burst, own, sweep, question, list, locate, numberOf, isRefusal, isRuleRefusal, receivedAs, answeredWriting}
+use Rattle.rules.specs.Rules.{Reading, StateOf, OutcomeOf, linkBy, singleHop, message, isEcho, isDuplicate, isFresh, isBestBy, ownPacket, routeOf, linkRows, refuse, begin, burstFits, takeBurst, send, purge, answerBest, fillRows, entriesHeld, answerLocate, step}
+use Rattle.rules.specs.Lookup.{serving}
 
 -- the first of a list whose fact holds, or another
 abbrev pub firstThat : List (Bool × ℕ) → (other : ℕ) → ℕ
@@ -73,12 +74,13 @@ module _ (W : Reading) (s : StateOf W) (r : ReceiveArgs) (h : Header) where
     abbrev pub wouldCount : Bool
     wouldCount = foreign && (not (q .ownOriginator) && (not (q .unidirectional) && (q .bidirectional && not (q .duplicate))))
 
-    -- 9 arises only for a packet whose verdict would be 22; 10 and 11 only for one that would be counted
+    -- 9 arises only for a packet whose verdict would be 22; 10, 11 and 15 only for one that would be counted
     abbrev pub roomFacts : List (Option Fault)
     roomFacts =
         given (wouldEcho && (not (q .bidirectional) && leb neighbourMost (W .rowsHeld (s .config) (s .rows)))) 9
         ∷ given (wouldCount && (maybe found true (λ a. false) && leb (s .config .settings .capacity) (length (s .records)))) 10
         ∷ given (wouldCount && ltb linkMost (length (W .links (s .config) countedRecord))) 11
+        ∷ given (wouldCount && ltb entryMost (length (W .entries (s .config) countedRecord))) 15
         ∷ []
 
     -- what the packet leaves: its time, the echo's row, the counted record; other originators' records do not change
@@ -138,7 +140,7 @@ module _ (W : Reading) (cells : ℕ) (s : StateOf W) where
       ∷ given (ltb (length (r .output)) (length (r .packet))) 4
       -- 5, 6, 7, 8
       ∷ packetFault (s .config .settings .version) (r .packet)
-      -- 9, 10, 11
+      -- 9, 10, 11, 15
       ∷ roomFacts W s r (header (r .packet)) (questions W s r (header (r .packet)))
   facts (burst a) = given (not (burstFits a)) 14 ∷ []
   facts (own a) =
@@ -151,6 +153,7 @@ module _ (W : Reading) (cells : ℕ) (s : StateOf W) where
       ∷ []
   facts (sweep t) = given (ltb t (s .time)) 3 ∷ []
   facts (question o) = []
+  facts (locate a) = []
   facts (list o lent) = given (ltb (length lent) (length (linkRows W (s .config) (lookup o (s .records))))) 4 ∷ []
 
   -- the outcome of a call that is not refused
@@ -161,10 +164,11 @@ module _ (W : Reading) (cells : ℕ) (s : StateOf W) where
   outcome (own a) = send W s a (ownPacket (s .config) (s .sends) a)
   outcome (sweep t) = purge W s t
   outcome (question o) = answerBest W s (lookup o (s .records))
+  outcome (locate a) = answerLocate W s (serving a (entriesHeld W s))
   outcome (list o lent) = fillRows W s lent (linkRows W (s .config) (lookup o (s .records)))
 
-  -- a call is refused by the first of its facts that holds, and then changes and writes nothing; its number is one of 2 to 14
-  -- otherwise it has its outcome, and answers none of 1 to 14
+  -- a call is refused by the first of its facts that holds, and then changes and writes nothing; its number is one of 2 to 15
+  -- otherwise it has its outcome, and answers none of 1 to 15
   pub record Exactly (c : Call) : Type 0 where
     pub refused : (f : Fault) → firstOf (facts c) ≡ some f → step W cells s c ≡ refuse W c s f
     pub numbers : (f : Fault) → firstOf (facts c) ≡ some f → isRuleRefusal (f .number) ≡ true

@@ -7,24 +7,26 @@ use mathlib.Core.List.{List, [], _∷_, _++_, map}
 use lib.Dec.{ltb, leb, eqb}
 use lib.ListN.{length, take, drop}
 use Rattle.lists.specs.Lists.{maybe, and, keep, sum, writtenTo}
-use Rattle.lists.specs.Keyed.{lookup, hasKey, put}
+use Rattle.lists.specs.Keyed.{lookup, hasKey, put, mapValues}
 use Rattle.window.specs.Window.{numbers, distance}
 use Rattle.wire.specs.declared.Header.{Header}
 use Rattle.wire.specs.declared.Fault.{Fault}
-use Rattle.wire.specs.Packet.{header, packetOf, isU, isD}
+use Rattle.wire.specs.Packet.{header, hna, packetOf, isU, isD}
 use Rattle.wire.specs.Check.{given, firstOf, packetFault, writtenFault}
+use Rattle.wire.specs.Entries.{networkOf, maskOf, entriesOf}
 use Rattle.wire.specs.PassOn.{flagsHere, flagsElsewhere, passedOn}
 use Rattle.rules.specs.declared.Route.{Route}
 use Rattle.rules.specs.declared.LinkRow.{LinkRow}
 use Rattle.rules.specs.declared.Received.{Received}
-use Rattle.rules.specs.declared.Ogm.{Ogm}
-use Rattle.rules.specs.Settings.{newestWins, neighbourMost, linkMost, packetsMost, ttlLeast, MakeArgs, Config, configOf, makeAllowed, interfaceAt, isInUse, isOwn, isBroadcast}
-use Rattle.rules.specs.Calls.{linkOf, neighbourOf, interfaceOf, noRoute, routeBy, Answer, made, received, burstReceived, written, swept, asked, listed, numberOf, receivedAs, burstAs, writtenAs, ReceiveArgs, BurstArgs, Packet, packetsOf, singleCall, OwnArgs, Call, make, receive, burst, own, sweep, question, list, Reply, answered, answeredWriting, answeredFilling, answeredEach, refusal}
+use Rattle.rules.specs.Settings.{newestWins, neighbourMost, linkMost, entryMost, packetsMost, ttlLeast, MakeArgs, Config, configOf, makeAllowed, interfaceAt, isInUse, isOwn, isBroadcast}
+use Rattle.rules.specs.Calls.{linkOf, neighbourOf, interfaceOf, noRoute, routeBy, Answer, made, received, burstReceived, written, swept, asked, listed, located, numberOf, receivedAs, burstAs, writtenAs, locatedAs, ReceiveArgs, BurstArgs, Packet, packetsOf, singleCall, OwnArgs, Call, make, receive, burst, own, sweep, question, list, locate, Reply, answered, answeredWriting, answeredFilling, answeredEach, refusal}
+use Rattle.rules.specs.Messages.{Message}
+use Rattle.rules.specs.Lookup.{Announced, serving}
 
 -- ---- readings
 
 -- the number of a counted OGM, as two octets have it
-abbrev pub sequenceOf : Ogm → ℕ
+abbrev pub sequenceOf : Message → ℕ
 sequenceOf m = m .sequence % numbers
 
 -- a link with count x stands below the receiving link, whose count is y: under newest wins if it isn't higher, under present link stays
@@ -56,9 +58,9 @@ pub record Reading : Type 1 where
   -- an originator's record
   pub Record : Type 0
   -- the first counted OGM makes it
-  pub first : Config → Ogm → Record
+  pub first : Config → Message → Record
   -- a further one is counted
-  pub next : Config → Ogm → Record → Record
+  pub next : Config → Message → Record → Record
   pub time : Record → ℕ
   pub lastTtl : Record → ℕ
   -- the number is inside the window and already marked on this link
@@ -69,6 +71,8 @@ pub record Reading : Type 1 where
   pub isBest : Config → Record → (link : ℕ) → Bool
   -- the held links, which have marks or are best, with their counts, rising by pair
   pub links : Config → Record → List (ℕ × ℕ)
+  -- the entries that are kept: those of the latest counted OGM that made the record or had a new number
+  pub entries : Config → Record → List ℕ
   -- the neighbour rows
   pub Rows : Type 0
   pub noRows : Rows
@@ -155,8 +159,8 @@ abbrev pub singleHop : ReceiveArgs → Header → Bool
 singleHop r h = eqb (r .sender) (h .originator)
 
 -- the OGM, as it is counted
-abbrev pub message : ReceiveArgs → Header → Ogm
-message r h = record { link = linkBy r; sequence = h .sequence; ttl = h .ttl; time = r .time }
+abbrev pub message : ReceiveArgs → Header → Message
+message r h = record { link = linkBy r; sequence = h .sequence; ttl = h .ttl; time = r .time; entries = entriesOf (hna (r .packet)) }
 
 -- D is set, the originator is the receiving interface's address, that interface has sent, and the number equals its last sent number (RULES 6.2)
 abbrev pub echoTests : Config → Sends → ReceiveArgs → Header → List Bool
@@ -191,6 +195,7 @@ answerRow (written a) = receivedAs 0 0 0 noRoute
 answerRow (swept a) = receivedAs 0 0 0 noRoute
 answerRow (asked a) = receivedAs 0 0 0 noRoute
 answerRow (listed a) = receivedAs 0 0 0 noRoute
+answerRow (located a) = receivedAs 0 0 0 noRoute
 
 -- what they leave: an answer each, the output, how many octets of it are written, and the state S
 pub record Each (S : Type 0) : Type 0 where
@@ -235,6 +240,10 @@ ownHeader κ ns a =
 -- with the given HNA octets
 abbrev pub ownPacket : Config → Sends → OwnArgs → List ℕ
 ownPacket κ ns a = packetOf (ownHeader κ ns a) (a .hna)
+
+-- the lookup's answer, x being the entry that was found, if any (RULES 7.6)
+abbrev pub locatedBy : (x : Option Announced) → Reply
+locatedBy x = answered (located (maybe x (locatedAs 0 0 0 0 0) (λ a. locatedAs 0 1 (a .originator) (networkOf (a .entry)) (maskOf (a .entry)))))
 
 -- ---- the calls, of any reading
 
@@ -291,6 +300,15 @@ module _ (W : Reading) where
   fillRows s lent rs =
       record { reply = answeredFilling (listed (record { number = 0; filled = length rs })) (writtenTo rs lent); state = s }
 
+  -- ---- the lookup
+
+  -- the entries of each originator held
+  abbrev pub entriesHeld : StateOf → List (ℕ × List ℕ)
+  entriesHeld s = mapValues (W .entries (s .config)) (s .records)
+
+  unfoldable pub answerLocate : StateOf → (x : Option Announced) → OutcomeOf
+  answerLocate s x = record { reply = locatedBy x; state = s }
+
   -- ---- receiving (RULES 6)
 
   -- verdicts 20 to 24: nothing is written; the route is what the best question would then answer for the packet's originator (RULES 6.8)
@@ -305,10 +323,14 @@ module _ (W : Reading) where
   abbrev pub isPassedOn : Config → ReceiveArgs → Header → (bidirectional fresh : Bool) → Option (W .Record) → Bool
   isPassedOn κ r h bidirectional fresh x = leb ttlLeast (h .ttl) && (singleHop r h || (bidirectional && (isBestBy κ r x && fresh)))
 
-  -- the record a, after counting, takes its place; 11: more than 8 links would have marks or be best (RULES 6.4, 8.4)
+  -- the record a, after counting: 11: more than 8 links would have marks or be best; 15: more than 16 entries would be kept (RULES 8.4)
+  abbrev pub countedFaults : Config → W .Record → List (Option Fault)
+  countedFaults κ a = given (ltb linkMost (length (W .links κ a))) 11 ∷ given (ltb entryMost (length (W .entries κ a))) 15 ∷ []
+
+  -- it takes its place (RULES 6.4)
   unfoldable pub storeCounted : StateOf → ReceiveArgs → Header → (fresh : Bool) → W .Record → OutcomeOf
   storeCounted s r h fresh a =
-      unless (given (ltb linkMost (length (W .links (s .config) a))) 11)
+      unless (firstOf (countedFaults (s .config) a))
       (refuse (receive r) s)
       (record {
         reply = conclude r h true (isPassedOn (s .config) r h true fresh (some a)) (routeOf (s .config) (some a));
@@ -410,6 +432,7 @@ module _ (W : Reading) where
       unless (ownFault (s .config) (s .time) a p) (refuse (own a) s) (send s a p)
   step cells s (sweep t) = unless (given (ltb t (s .time)) 3) (refuse (sweep t) s) (purge s t)
   step cells s (question o) = answerBest s (lookup o (s .records))
+  step cells s (locate a) = answerLocate s (serving a (entriesHeld s))
   step cells s (list o lent) =
       let rs = linkRows (s .config) (lookup o (s .records)) in
       -- fewer rows than links

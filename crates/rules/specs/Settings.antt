@@ -48,6 +48,10 @@ neighbourMost = 32
 abbrev pub linkMost : ℕ
 linkMost = 8
 
+-- HNA entries of one originator
+abbrev pub entryMost : ℕ
+entryMost = 16
+
 -- packets of one burst
 abbrev pub packetsMost : ℕ
 packetsMost = 32
@@ -179,9 +183,9 @@ interfaceCells = 5
 abbrev pub neighbourCells : ℕ
 neighbourCells = 2
 
--- address, current number, time, last TTL, how many links are held, the best link's pair
+-- address, current number, time, last TTL, how many links are held, the best link's pair, how many entries are held
 abbrev pub recordHeadCells : ℕ
-recordHeadCells = 6
+recordHeadCells = 7
 
 -- the pair and the word of marks
 abbrev pub linkCells : ℕ
@@ -197,12 +201,16 @@ neighbourAreaCells = neighbourMost * neighbourCells
 abbrev pub linkAreaCells : ℕ
 linkAreaCells = linkMost * linkCells
 
+-- a cell for each entry
+abbrev pub entryAreaCells : ℕ
+entryAreaCells = entryMost
+
 -- all that stands before the records
 abbrev pub tableHead : ℕ
 tableHead = headCells + interfaceAreaCells + neighbourAreaCells
 
 abbrev pub recordCells : ℕ
-recordCells = recordHeadCells + linkAreaCells
+recordCells = recordHeadCells + linkAreaCells + entryAreaCells
 
 unfoldable pub cellsNeeded : (capacity : ℕ) → ℕ
 cellsNeeded capacity = tableHead + capacity * recordCells

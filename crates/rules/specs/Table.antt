@@ -9,7 +9,7 @@ use Rattle.lists.specs.Keyed.{lookup, hasKey, put, mapValues}
 use Rattle.window.specs.Window.{distance, inside, advance, marked, shift, mark, count, hasMark}
 use Rattle.rules.specs.Settings.{Config}
 use Rattle.rules.specs.Calls.{interfaceOf}
-use Rattle.rules.specs.declared.Ogm.{Ogm}
+use Rattle.rules.specs.Messages.{Message}
 use Rattle.rules.specs.Rules.{sequenceOf, standsBelow, Sends, lastSent, Reading, State}
 
 -- ---- records
@@ -21,6 +21,8 @@ pub record TableRecord : Type 0 where
   pub best : ℕ
   -- under each held link its word of marks
   pub links : List (ℕ × ℕ)
+  -- the HNA entries, in packet order
+  pub entries : List ℕ
 
 abbrev pub marksAt : List (ℕ × ℕ) → (link : ℕ) → ℕ
 marksAt ls l = maybe (lookup l ls) 0 (λ v. v)
@@ -35,7 +37,7 @@ isHighest κ l v ls = all (isBelow κ l (count v)) ls
 
 -- the record x, in which this link has the word v, once the message is counted: this link is best if every other then stands below it,
 -- otherwise best stays, even with count 0; a link with no mark that isn't best gives up its place
-abbrev pub settle : Config → Ogm → (v : ℕ) → TableRecord → TableRecord
+abbrev pub settle : Config → Message → (v : ℕ) → TableRecord → TableRecord
 settle κ m v x =
     let t = cond (isHighest κ (m .link) v (x .links)) (m .link) (x .best) in
     record {
@@ -44,22 +46,26 @@ settle κ m v x =
       lastTtl = m .ttl;
       best = t;
       links = keep (λ (e : ℕ × ℕ). hasMark (e .1) || eqb (e .0) t) (x .links);
+      entries = x .entries;
     }
 
 abbrev pub withLinks : List (ℕ × ℕ) → TableRecord → TableRecord
-withLinks ls x = record { current = x .current; time = x .time; lastTtl = x .lastTtl; best = x .best; links = ls }
+withLinks ls x = record { current = x .current; time = x .time; lastTtl = x .lastTtl; best = x .best; links = ls; entries = x .entries }
+
+abbrev pub withEntries : List ℕ → TableRecord → TableRecord
+withEntries es x = record { current = x .current; time = x .time; lastTtl = x .lastTtl; best = x .best; links = x .links; entries = es }
 
 -- the number is marked on its link (RULES 6.4)
-abbrev pub markOn : Config → Ogm → TableRecord → TableRecord
+abbrev pub markOn : Config → Message → TableRecord → TableRecord
 markOn κ m x =
     let v = mark (marksAt (x .links) (m .link)) (distance (x .current) (sequenceOf m)) in
     settle κ m v (withLinks (put (m .link) v (x .links)) x)
 
--- a record before its first count: the first number is current, and its link best
-abbrev pub begun : Ogm → TableRecord
-begun m = record { current = sequenceOf m; time = m .time; lastTtl = m .ttl; best = m .link; links = [] }
+-- a record before its first count: the first number is current, its link best, and its entries are kept
+abbrev pub begun : Message → TableRecord
+begun m = record { current = sequenceOf m; time = m .time; lastTtl = m .ttl; best = m .link; links = []; entries = m .entries }
 
-unfoldable pub firstRecord : Config → Ogm → TableRecord
+unfoldable pub firstRecord : Config → Message → TableRecord
 firstRecord κ m = markOn κ m (begun m)
 
 -- c becomes current, and numbers no longer inside are forgotten on every link (RULES 4.2)
@@ -71,11 +77,16 @@ moveTo κ c x =
       lastTtl = x .lastTtl;
       best = x .best;
       links = mapValues (shift (κ .settings .window) (distance c (x .current))) (x .links);
+      entries = x .entries;
     }
 
+-- the entries once the message is counted: a new number's replace those that are kept, any other's leave them (RULES 6.4)
+abbrev pub entriesThen : Config → Message → TableRecord → List ℕ
+entriesThen κ m x = cond (inside (κ .settings .window) (x .current) (sequenceOf m)) (x .entries) (m .entries)
+
 -- a new number moves the window (RULES 4.2)
-unfoldable pub nextRecord : Config → Ogm → TableRecord → TableRecord
-nextRecord κ m x = markOn κ m (moveTo κ (advance (κ .settings .window) (x .current) (sequenceOf m)) x)
+unfoldable pub nextRecord : Config → Message → TableRecord → TableRecord
+nextRecord κ m x = markOn κ m (withEntries (entriesThen κ m x) (moveTo κ (advance (κ .settings .window) (x .current) (sequenceOf m)) x))
 
 unfoldable pub isMarked : Config → TableRecord → (link number : ℕ) → Bool
 isMarked κ r l n = inside (κ .settings .window) (r .current) n && marked (marksAt (r .links) l) (r .current) n
@@ -110,6 +121,7 @@ table =
       best = λ κ r. r .best;
       isBest = λ κ r l. eqb (r .best) l;
       links = λ κ r. mapValues count (r .links);
+      entries = λ κ r. r .entries;
       Rows = TableRows;
       noRows = [];
       hasRow = λ κ rs l. hasKey l rs;

@@ -8,8 +8,10 @@ use lib.ListN.{length}
 use Rattle.lists.specs.Lists.{and, all}
 use Rattle.lists.specs.Keyed.{hasKey, rising}
 use Rattle.window.specs.Window.{hasMark}
-use Rattle.rules.specs.Settings.{Config, allowed, neighbourMost, linkMost, within, isOctet, isAddress, isNumber, isTime, isInUse, isOwn}
-use Rattle.rules.specs.Calls.{neighbourOf, interfaceOf, ReceiveArgs, BurstArgs, Call, make, receive, burst, own, sweep, question, list}
+use Rattle.wire.specs.Layout.{maskMost}
+use Rattle.wire.specs.Entries.{networkOf, maskOf}
+use Rattle.rules.specs.Settings.{Config, allowed, neighbourMost, linkMost, entryMost, within, isOctet, isAddress, isNumber, isTime, isInUse, isOwn}
+use Rattle.rules.specs.Calls.{neighbourOf, interfaceOf, ReceiveArgs, BurstArgs, Call, make, receive, burst, own, sweep, question, list, locate}
 use Rattle.rules.specs.Rules.{Sends, hasSent}
 use Rattle.rules.specs.Table.{TableRecord, TableState, rowDistance}
 
@@ -36,7 +38,11 @@ linkTests κ b e =
     ∷ (hasMark (e .1) || eqb (e .0) b)
     ∷ []
 
--- an originator is no own address and has 1 to 8 links; its time is not after the table's
+-- an entry has a network address and a mask of at most 32
+abbrev pub entryTests : (entry : ℕ) → List Bool
+entryTests e = isAddress (networkOf e) ∷ leb (maskOf e) maskMost ∷ []
+
+-- an originator is no own address and has 1 to 8 links and at most 16 entries; its time is not after the table's
 abbrev pub fieldTests : Config → (now : ℕ) → ℕ × TableRecord → List Bool
 fieldTests κ now e =
     isAddress (e .0)
@@ -45,14 +51,18 @@ fieldTests κ now e =
     ∷ leb (e .1 .time) now
     ∷ isOctet (e .1 .lastTtl)
     ∷ within 1 linkMost (length (e .1 .links))
+    ∷ leb (length (e .1 .entries)) entryMost
     ∷ []
 
 -- its links rise strictly by the pair; exactly one is best
 abbrev pub linksTests : Config → (best : ℕ) → List (ℕ × ℕ) → List Bool
 linksTests κ b ls = rising ls ∷ all (λ l. and (linkTests κ b l)) ls ∷ hasKey b ls ∷ []
 
+abbrev pub entriesOk : List ℕ → Bool
+entriesOk es = all (λ e. and (entryTests e)) es
+
 abbrev pub recordTests : Config → (now : ℕ) → ℕ × TableRecord → List Bool
-recordTests κ now e = and (fieldTests κ now e) ∷ and (linksTests κ (e .1 .best) (e .1 .links)) ∷ []
+recordTests κ now e = and (fieldTests κ now e) ∷ and (linksTests κ (e .1 .best) (e .1 .links)) ∷ entriesOk (e .1 .entries) ∷ []
 
 -- neighbour rows rise strictly by address, then interface, originators strictly by address; no more are held than the limits allow
 abbrev pub tableTests : TableState → List Bool
@@ -87,3 +97,4 @@ typed (own a) = isTime (a .time)
 typed (sweep t) = isTime t
 typed (question o) = true
 typed (list o rs) = true
+typed (locate a) = true

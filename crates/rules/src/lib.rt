@@ -28,7 +28,8 @@ pub struct Interface {
     pub first: u16,
 }
 
-// An originator message on its way to a record: the link that it came by, its sequence number, TTL and time.
+// An originator message on its way to a record: the link that it came by, its sequence number, TTL and time. A further field is a line here. Its HNA
+// octets are lent beside it: a struct that holds a slice is not taken by the prover.
 pub struct Ogm {
     pub link: u64,
     pub sequence: u16,
@@ -99,6 +100,16 @@ pub struct Asked {
 pub struct Burst {
     pub number: u64,
     pub written: u64,
+}
+
+// The answer to the lookup: whether an entry covers the address (1 or 0), and then its originator, its network as announced and its mask.
+#[repr(C)]
+pub struct Located {
+    pub number: u64,
+    pub found: u32,
+    pub originator: u32,
+    pub network: u32,
+    pub mask: u32,
 }
 
 // The answer to the list call: how many rows were filled.

@@ -25,6 +25,9 @@ pub const NEIGHBOURS_MOST: u64 = 32;
 
 pub const LINKS_MOST: u64 = 8;
 
+// Of the HNA entries of one originator.
+pub const ENTRIES_MOST: u64 = 16;
+
 // Of the packets of a burst.
 pub const PACKETS_MOST: u64 = 32;
 
@@ -37,3 +40,6 @@ pub const ADDRESSES: u64 = 4294967296;
 pub const OCTETS: u64 = 256;
 
 pub const PAIRS: u64 = ADDRESSES * INTERFACES_MOST;
+
+// And how many entries: an entry is the number network * OCTETS + mask.
+pub const ENTRY_VALUES: u64 = ADDRESSES * OCTETS;

@@ -2,6 +2,7 @@
 // used.
 use rules::Asked;
 use rules::LinkRow;
+use rules::Located;
 use rules::Received;
 use rules::Route;
 use rules::Written;
@@ -125,6 +126,15 @@ pub fn put_asked(text: &mut [u8], used: usize, r: Asked) -> usize {
     let b = put_number(text, a, r.number);
     let c = put_route(text, b, r.route);
     put_line_end(text, c)
+}
+
+// The answer to the lookup.
+pub fn put_located(text: &mut [u8], used: usize, r: Located) -> usize {
+    let a = put_begun(text, used, b"lookup", r.number, r.found as u64);
+    let b = put_number(text, a, r.originator as u64);
+    let c = put_number(text, b, r.network as u64);
+    let d = put_number(text, c, r.mask as u64);
+    put_line_end(text, d)
 }
 
 // A row of the list call.

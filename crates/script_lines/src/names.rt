@@ -10,6 +10,7 @@ pub enum Call {
     Sweep,
     Best,
     List,
+    Lookup,
     Check,
     Make,
     Size,
@@ -36,6 +37,9 @@ fn call_of(word: &[u8]) -> Call {
     }
     if same(word, b"list") {
         return Call::List;
+    }
+    if same(word, b"lookup") {
+        return Call::Lookup;
     }
     if same(word, b"check") {
         return Call::Check;

@@ -139,6 +139,7 @@ fn numbers(call: Call, line: &[u8], at: usize) -> Numbers
         Call::Sweep => one(line, at, MOST_64),
         Call::Best => one(line, at, MOST_32),
         Call::List => two(line, at, MOST_32, ROWS_MOST),
+        Call::Lookup => one(line, at, MOST_32),
         Call::Make => make_numbers(line, at),
         Call::Size => one(line, at, MOST_64),
         Call::Cells => one(line, at, CELLS_MOST as u64),

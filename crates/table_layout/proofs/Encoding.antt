@@ -22,7 +22,7 @@ use Rattle.rules.specs.WellFormed.{sendTests, recordTests}
 use Rattle.rules.specs.WellFormed as R
 use Rattle.rules.proofs.Config.{interfaces-high}
 use Rattle.rules.proofs.WellFormed.{Wf, parts}
-use Rattle.table_record.specs.Record.{encodeRecord, decodeRecord, unusedLinks, recordOk}
+use Rattle.table_record.specs.Record.{encodeRecord, decodeRecord, unusedZero, recordOk}
 use Rattle.table_record.proofs.Rows.{length-record, valid-back, record-passes, record-unused, record-trip}
 use Rattle.table_layout.specs.Layout.{interfacePart, neighbourPart, recordPart, usedAt, rowsAt, recordsAt, timeAt, capacityAt}
 use Rattle.table_layout.specs.Interfaces.{InterfaceRow, rowsWith, sendsOf, encodeInterface, decodeInterface, sentTests}
@@ -80,8 +80,8 @@ module _ (s : TableState) (h : R.wellFormed s ≡ true) where
       ap (all (λ row. and (sentTests row))) encoded-rows ∙ all-map encodeInterface (λ row. and (sentTests row)) rows ∙ all-true _ interface-tests rows in
       let free : allZero (drop (length (s .config .interfaces) * interfaceCells) (interfacePart (encode s))) ≡ true =
       (λ i. allZero (drop (sym (length-with (s .sends) 0 (s .config .interfaces)) i * interfaceCells) (interfaces-lent s i))) ∙ rest-area encodeInterface interfaceCells interface-wide interfaceMost rows in
-      let links : all (λ row. allZero (unusedLinks row)) (rowsOf recordCells (length (s .records)) (recordPart (encode s))) ≡ true =
-      ap (all (λ row. allZero (unusedLinks row))) encoded-each ∙ all-map encodeRecord (λ row. allZero (unusedLinks row)) (s .records)
+      let links : all unusedZero (rowsOf recordCells (length (s .records)) (recordPart (encode s))) ≡ true =
+      ap (all unusedZero) encoded-each ∙ all-map encodeRecord unusedZero (s .records)
       ∙ all-weaken _ _ (λ e t. record-unused (s .config) (s .time) (encodeRecord e) (record-passes (s .config) (s .time) e t)) (s .records) (w .records .each) in
       let free-rows : allZero (drop (length (s .rows) * neighbourCells) (neighbourPart (encode s))) ≡ true =
       ap (λ (l : List ℕ). allZero (drop (length (s .rows) * neighbourCells) l)) (rows-lent s) ∙ pairs-rest neighbourMost (s .rows) in
@@ -113,8 +113,8 @@ module _ (c : List ℕ) (h : wellFormed c ≡ true) where
   pub free-rows : allZero (unusedRows c) ≡ true
   free-rows = clause 4
 
-  pub free-links : all (λ row. allZero (unusedLinks row)) (rowsOf recordCells (getD c recordsAt 0) (recordPart c)) ≡ true
-  free-links = clause 5
+  pub free-parts : all unusedZero (rowsOf recordCells (getD c recordsAt 0) (recordPart c)) ≡ true
+  free-parts = clause 5
 
   pub free-records : allZero (unusedRecords c) ≡ true
   free-records = clause 6
@@ -150,7 +150,7 @@ module _ (c : List ℕ) (h : wellFormed c ≡ true) where
   records-ok =
       let rows = rowsOf recordCells (getD c recordsAt 0) (recordPart c) in
       let tests : ℕ × TableRecord → Bool = λ e. and (recordTests (configIn c) (getD c timeAt 0) e) in
-      all-meet (λ row. tests (decodeRecord row)) (λ row. allZero (unusedLinks row)) _ (λ row g z. both g z) rows (sym (all-map decodeRecord tests rows) ∙ holds .records .each) free-links
+      all-meet (λ row. tests (decodeRecord row)) unusedZero _ (λ row g z. both g z) rows (sym (all-map decodeRecord tests rows) ∙ holds .records .each) free-parts
 
   interfaces-trip : interfaceArea (decode c) ≡ interfacePart c
   unfolding decode

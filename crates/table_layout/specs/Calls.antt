@@ -7,7 +7,7 @@ use Prim.Native.Nat.{ℕ}
 use lib.ListN.{length}
 use Rattle.lists.specs.Lists.{maybe}
 use Rattle.rules.specs.Settings.{MakeArgs, makeAllowed}
-use Rattle.rules.specs.Calls.{ReceiveArgs, BurstArgs, packetsOf, Call, make, receive, burst, own, sweep, question, list, Reply, refusal}
+use Rattle.rules.specs.Calls.{ReceiveArgs, BurstArgs, packetsOf, Call, make, receive, burst, own, sweep, question, list, locate, Reply, refusal}
 use Rattle.rules.specs.Rules.{Each, receiveEach, branch, step}
 use Rattle.rules.specs.Table.{table}
 use Rattle.rules.specs.WellFormed.{typed}
@@ -35,6 +35,7 @@ makeOf (own a) = none
 makeOf (sweep t) = none
 makeOf (question o) = none
 makeOf (list o rs) = none
+makeOf (locate a) = none
 
 -- what a call asks of the cells: make, only that they are as many as it needs; every other, that they are a well-formed table's (RULES 8.2)
 abbrev pub meets : List ℕ → Call → Bool

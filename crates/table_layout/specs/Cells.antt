@@ -12,7 +12,7 @@ use Rattle.rules.specs.Settings.{Config, interfaceMost, neighbourMost, interfac
 use Rattle.rules.specs.Rules.{Sends}
 use Rattle.rules.specs.Table.{TableRows, TableRecord, TableState}
 use Rattle.rules.specs.WellFormed as R
-use Rattle.table_record.specs.Record.{encodeRecord, decodeRecord, unusedLinks}
+use Rattle.table_record.specs.Record.{encodeRecord, decodeRecord, unusedZero}
 use Rattle.table_layout.specs.Layout.{versionAt, windowAt, timeoutAt, purgeAt, capacityAt, tieAt, usedAt, timeAt, rowsAt, recordsAt, interfacePart, neighbourPart, recordPart}
 use Rattle.table_layout.specs.Interfaces.{InterfaceRow, rowsWith, sendsOf, encodeInterface, decodeInterface, sentTests}
 
@@ -83,7 +83,7 @@ cellTests c =
     ∷ all (λ row. and (sentTests row)) (rowsOf interfaceCells (getD c usedAt 0) (interfacePart c))
     ∷ allZero (unusedInterfaces c)
     ∷ allZero (unusedRows c)
-    ∷ all (λ row. allZero (unusedLinks row)) (rowsOf recordCells (getD c recordsAt 0) (recordPart c))
+    ∷ all unusedZero (rowsOf recordCells (getD c recordsAt 0) (recordPart c))
     ∷ allZero (unusedRecords c)
     ∷ []
 

@@ -4,17 +4,19 @@ use mathlib.Core.Bool.{Bool, true, false, cond}
 use mathlib.Core.List.{List, [], _∷_, _++_, append-assoc, append-nil}
 use Prim.Native.Nat.{ℕ, _+_, _-_, _*_, _≤_, _<_}
 use native.Mathlib.Omega.{arith}
-use lib.ListN.{length, take, drop, set, getD, length-append, length-set, length-map}
+use lib.ListN.{length, take, drop, set, getD, length-append, length-drop, length-set, length-map}
+use lib.Seq.{length-take-le}
 use borrow.Rule.Slice.PartMut.{putMid, put-same}
 use Rattle.lists.specs.Keyed.{put}
-use Rattle.cells.specs.Area.{putIn, insertAt}
+use Rattle.cells.specs.Area.{written, movedUp, putIn, insertAt}
 use Rattle.cells.specs.Pairs.{pairArea}
-use Rattle.cells.proofs.Areas.{length-area, length-insert, take-more, more-back, write-row, put-row}
+use Rattle.cells.proofs.Areas.{length-fit, length-area, length-insert, take-more, more-back, write-row, put-row}
 use Rattle.cells.proofs.Lent.{part-is, part-length, tail-back}
 use Rattle.cells.proofs.Trips.{length-decoded}
+use Rattle.cells_moves.proofs.Moves.{put-done}
 use Rattle.cells.proofs.Search.{Among, among, apart, put-among, put-apart}
 use Rattle.rules.specs.Settings.{neighbourMost, recordCells}
-use Rattle.rules.specs.declared.Ogm.{Ogm}
+use Rattle.rules.specs.Messages.{Message}
 use Rattle.rules.specs.Table.{TableRecord, TableState, nextRecord}
 use Rattle.table_record.specs.Record.{encodeRecord, decodeRecord}
 use Rattle.table_record.proofs.Rows.{length-record}
@@ -126,7 +128,7 @@ module _ (c : List ℕ) (o i : ℕ) where
     lent-is = part-is c (recordPlace i) recordCells (s .holds .fits)
 
     -- what a message leaves of it
-    pub heard-in : (m : Ogm) (b : Bool) (y : List ℕ) (r : Heard) → HeardIn (decode c .config) m b (take (recordPlace i + recordCells - recordPlace i) (drop (recordPlace i) c)) y r
+    pub heard-in : (m : Message) (b : Bool) (y : List ℕ) (r : Heard) → HeardIn (decode c .config) m b (take (recordPlace i + recordCells - recordPlace i) (drop (recordPlace i) c)) y r
         → HeardAt c (putMid (recordPlace i) (recordPlace i + recordCells - recordPlace i) c y) o i m b r
     heard-in m b y r w =
         let κ = decode c .config in
@@ -160,6 +162,49 @@ module _ (c : List ℕ) (o i : ℕ) where
       -- there is room for its cells
       pub place-fits : i * recordCells + recordCells ≤ length (take (recordsFrom + more - recordsFrom) (drop recordsFrom c))
       place-fits = omega (arith, place-within, records-count c, part-length c recordsFrom more more-fits)
+
+      -- the cells of the records with those from place i on moved up, z, and what is left of all cells
+      abbrev pub opened : List ℕ → List ℕ
+      opened z = putMid recordsFrom (recordsFrom + more - recordsFrom) c z
+
+      opened-length : (z : List ℕ) → length z ≡ more → length (opened z) ≡ length c
+      opened-length z e =
+          let rest = drop (recordsFrom + more - recordsFrom) (drop recordsFrom c) in
+          omega (
+            arith,
+            length-append (take recordsFrom c) (z ++ rest),
+            length-append z rest,
+            length-take-le recordsFrom c (omega (arith, more-fits)),
+            e,
+            length-drop (recordsFrom + more - recordsFrom) (drop recordsFrom c),
+            length-drop recordsFrom c,
+            more-fits,
+          )
+
+      module _ (z : List ℕ) (ez : z ≡ movedUp (take (recordsFrom + more - recordsFrom) (drop recordsFrom c)) (i * recordCells) recordCells) where
+        opened-size : length z ≡ more
+        opened-size = ap length ez ∙ length-fit (length (take (recordsFrom + more - recordsFrom) (drop recordsFrom c))) _ ∙ part-length c recordsFrom more more-fits
+
+        -- the row at place i is lent whole
+        pub opened-fits : recordPlace i + recordCells ≤ length (opened z)
+        opened-fits = omega (arith, opened-length z opened-size, more-fits, place-fits, part-length c recordsFrom more more-fits)
+
+        pub opened-row : (y : List ℕ) → length y ≡ recordCells
+            → putMid (recordPlace i) (recordPlace i + recordCells - recordPlace i) (opened z) y ≡ opened (putIn (take (recordsFrom + more - recordsFrom) (drop recordsFrom c)) (i * recordCells) y)
+        opened-row y ey =
+            let rest = drop (recordsFrom + more - recordsFrom) (drop recordsFrom c) in
+            let lent = take (recordsFrom + more - recordsFrom) (drop recordsFrom c) in
+            let n : recordPlace i + recordCells - recordPlace i ≡ recordCells = omega arith in
+            let lh : length (take recordsFrom c) ≡ recordsFrom = length-take-le recordsFrom c (omega (arith, more-fits)) in
+            (λ j. putMid (sym lh j + i * recordCells) (n j) (opened z) y)
+            ∙ run-back (take recordsFrom c) z rest (i * recordCells) recordCells (omega (arith, opened-size, place-fits, part-length c recordsFrom more more-fits)) y ey
+            ∙ ap (λ (l : List ℕ). take recordsFrom c ++ (l ++ rest)) (put-done lent y z (written z (i * recordCells) y) (i * recordCells) (omega (arith, place-fits, ey)) (ez ∙ ap (movedUp lent (i * recordCells)) (sym ey)) refl)
+
+        -- so there are as many cells as before
+        pub opened-same : (y : List ℕ) → length y ≡ recordCells → length (putMid (recordPlace i) (recordPlace i + recordCells - recordPlace i) (opened z) y) ≡ length c
+        opened-same y ey =
+            let lent = take (recordsFrom + more - recordsFrom) (drop recordsFrom c) in
+            ap length (opened-row y ey) ∙ opened-length (putIn lent (i * recordCells) y) (length-fit (length lent) _ ∙ part-length c recordsFrom more more-fits)
 
       pub record-in : (x : TableRecord) (y z : List ℕ) → y ≡ encodeRecord (o, x) → z ≡ putIn (take (recordsFrom + more - recordsFrom) (drop recordsFrom c)) (i * recordCells) y
           → set (putMid recordsFrom (recordsFrom + more - recordsFrom) c z) recordsAt (getD c recordsAt 0 + 1) ≡ encode (with x)

@@ -9,7 +9,7 @@ use Rattle.lists.specs.Keyed.{lookup, put}
 use Rattle.cells.specs.Find.{IsAt, IsPlace}
 use Rattle.cells.specs.declared.Found.{Found}
 use Rattle.cells.specs.declared.Found.the-variants.{At, Place}
-use Rattle.rules.specs.declared.Ogm.{Ogm}
+use Rattle.rules.specs.Messages.{Message}
 use Rattle.rules.specs.declared.Route.{Route}
 use Rattle.rules.specs.Settings.{recordCells}
 use Rattle.rules.specs.Rules.{routeOf}
@@ -57,16 +57,16 @@ RecordFound c o (Place i) = Missing c o i
 abbrev pub standingAt : List ℕ → (i : ℕ) → TableRecord
 standingAt c i = decodeRecord (recordAt c i) .1
 
-abbrev pub countedAt : List ℕ → (i : ℕ) → Ogm → TableRecord
+abbrev pub countedAt : List ℕ → (i : ℕ) → Message → TableRecord
 countedAt c i m = nextRecord (decode c .config) m (standingAt c i)
 
 -- what is answered of a message to the record of o, and the cells d that it leaves: where it is taken, those of the table with the next record
-pub record HeardAt (c d : List ℕ) (o i : ℕ) (m : Ogm) (bidirectional : Bool) (r : Heard) : Type 0 where
+pub record HeardAt (c d : List ℕ) (o i : ℕ) (m : Message) (bidirectional : Bool) (r : Heard) : Type 0 where
   pub answers : Answers (decode c .config) m bidirectional (standingAt c i) r
   pub cells : d ≡ cond (isTaken (decode c .config) m bidirectional (standingAt c i)) (encode (withRecords (put o (countedAt c i m) (decode c .records)) (decode c))) c
 
 -- the first counted message of o makes its record: the cells d have it, the message's link is best, and r is the route
-pub record Made (c d : List ℕ) (o : ℕ) (m : Ogm) (r : Route) : Type 0 where
+pub record Made (c d : List ℕ) (o : ℕ) (m : Message) (r : Route) : Type 0 where
   pub cells : d ≡ encode (withRecords (put o (firstRecord (decode c .config) m) (decode c .records)) (decode c))
   pub best : table .isBest (decode c .config) (firstRecord (decode c .config) m) (m .link) ≡ true
   pub route : r ≡ routeOf table (decode c .config) (some (firstRecord (decode c .config) m))

@@ -1,7 +1,7 @@
 // The originators' records in a table's cells: found by address, told of a message, and made.
 use cells::Found;
 use cells::find;
-use cells_moves::put_in;
+use cells_moves::move_up;
 use count_in_record::Heard;
 use count_in_record::first_record;
 use count_in_record::hear;
@@ -15,9 +15,11 @@ use table_layout::WINDOW;
 use table_record::WIDTH;
 ghost use mathlib.Core.Path.{_≡_};
 ghost use mathlib.Core.Bool.{true};
-ghost use Prim.Native.Nat.{ℕ, _<_};
+ghost use Prim.Native.Nat.{ℕ, _<_, _≤_};
 ghost use lib.ListN.{getD};
-ghost use Rattle.rules.specs.Settings.{Follows, Bounded, isAddress};
+ghost use Rattle.wire.specs.Check.{entries};
+ghost use Rattle.rules.specs.Settings.{Follows, Bounded, entryMost, isAddress};
+ghost use Rattle.rules.specs.Messages.{messageOf};
 ghost use Rattle.rules.specs.Calls.{neighbourOf};
 ghost use Rattle.table_layout.specs.Layout.{capacityAt, recordsAt};
 ghost use Rattle.table_layout.specs.Cells.{decode};
@@ -59,27 +61,29 @@ pub fn record_at(cells: &[u64], i: usize) -> &[u64]
 }
 
 // What a message does to the record at place i, and what is answered of it.
-pub fn hear_at(cells: &mut [u64], i: usize, m: Ogm, bidirectional: bool) -> Heard
+pub fn hear_at(cells: &mut [u64], i: usize, m: Ogm, hna: &[u8], bidirectional: bool) -> Heard
     requires { ⌜ Holds (now cells) i × (isAddress (neighbourOf (m .link)) ≡ true) ⌝ }
-    ensures { λ r. ⌜ ((o : ℕ) → Stands (now (cells .entry)) o i → HeardAt (now (cells .entry)) (now (cells .exit)) o i m bidirectional r) ⌝ }
+    ensures { λ r. ⌜ ((o : ℕ) → Stands (now (cells .entry)) o i → HeardAt (now (cells .entry)) (now (cells .exit)) o i (messageOf m (now (hna .entry))) bidirectional r) ⌝ }
 {
     let p = policy_of(cells);
     let at = RECORDS_FROM + i * WIDTH;
     let end = at + WIDTH;
-    hear(&mut cells[at..end], p, m, bidirectional)
+    hear(&mut cells[at..end], p, m, hna, bidirectional)
 }
 
-// Puts the record that an originator's first counted message makes in at its place i, and answers its route. Only records that are held move.
-pub fn make_record(cells: &mut [u64], i: usize, originator: u32, m: Ogm) -> Route
-    requires { ⌜ Missing (now cells) originator i × (getD (now cells) recordsAt 0 < getD (now cells) capacityAt 0) × (isAddress (neighbourOf (m .link)) ≡ true) ⌝ }
-    ensures { λ r. ⌜ Made (now (cells .entry)) (now (cells .exit)) originator m r ⌝ }
+// Puts the record that an originator's first counted message makes in at its place i, and answers its route. Only records that are held move, and the
+// record is written where it stays.
+pub fn make_record(cells: &mut [u64], i: usize, originator: u32, m: Ogm, hna: &[u8]) -> Route
+    requires { ⌜ Missing (now cells) originator i × (getD (now cells) recordsAt 0 < getD (now cells) capacityAt 0) × (isAddress (neighbourOf (m .link)) ≡ true) × (entries (now hna) ≤ entryMost) ⌝ }
+    ensures { λ r. ⌜ Made (now (cells .entry)) (now (cells .exit)) originator (messageOf m (now (hna .entry))) r ⌝ }
 {
     let p = policy_of(cells);
     let n = cells[RECORDS];
     let end = RECORDS_FROM + (n as usize + 1) * WIDTH;
-    let mut row = [0u64; WIDTH];
-    let route = first_record(&mut row, originator as u64, p, m);
-    put_in(&mut cells[RECORDS_FROM..end], i * WIDTH, &row);
+    move_up(&mut cells[RECORDS_FROM..end], i * WIDTH, WIDTH);
+    let at = RECORDS_FROM + i * WIDTH;
+    let after = at + WIDTH;
+    let route = first_record(&mut cells[at..after], originator as u64, p, m, hna);
     cells[RECORDS] = n + 1;
     route
 }

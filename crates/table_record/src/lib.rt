@@ -1,7 +1,8 @@
-// One originator's record in its cells: where its parts stand, its links, and the route that it gives.
+// One originator's record in its cells: where its parts stand, its links and entries, and the route that it gives.
 use cells::Found;
 use cells::find;
 use rules::Route;
+use rules::limits::ENTRIES_MOST;
 use rules::limits::INTERFACES_MOST;
 use rules::limits::LINKS_MOST;
 use window::Marks;
@@ -20,7 +21,7 @@ ghost use Rattle.rules.specs.Calls.{pairs, routeBy};
 ghost use Rattle.rules.specs.Rules.{routeOf};
 ghost use Rattle.rules.specs.Table.{table, marksAt};
 ghost use Rattle.table_record.specs.Links.{linkRow, linksFrom, linkAt};
-ghost use Rattle.table_record.specs.Record.{linksPart, decodeRecord, Held};
+ghost use Rattle.table_record.specs.Record.{linksPart, entriesPart, decodeRecord, Held};
 
 // The places of a record's fields.
 pub const ADDRESS: usize = 0;
@@ -37,8 +38,11 @@ pub const LINKS: usize = 4;
 // The best link's pair.
 pub const BEST: usize = 5;
 
+// How many entries are held.
+pub const ENTRIES: usize = 6;
+
 // The cells before the links.
-pub const FIELDS: usize = BEST + 1;
+pub const FIELDS: usize = ENTRIES + 1;
 
 // The cells of a link: its pair, the key, and its marks.
 pub const LINK: usize = 2;
@@ -48,10 +52,10 @@ const MARKS: usize = 1;
 // The cells that there are for links, and where they end.
 pub const LINKS_CELLS: usize = LINKS_MOST as usize * LINK;
 
-const LINKS_END: usize = FIELDS + LINKS_CELLS;
+pub const LINKS_END: usize = FIELDS + LINKS_CELLS;
 
-// The cells of a record.
-pub const WIDTH: usize = LINKS_END;
+// The cells of a record: after the links one for each entry.
+pub const WIDTH: usize = LINKS_END + ENTRIES_MOST as usize;
 
 // The cells of a record's links.
 pub fn links_part(row: &[u64]) -> &[u64]
@@ -59,6 +63,14 @@ pub fn links_part(row: &[u64]) -> &[u64]
     ensures { λ r. ⌜ now r ≡ linksPart (now (row .entry)) ⌝ }
 {
     &row[FIELDS..LINKS_END]
+}
+
+// The cells of a record's entries.
+pub fn entries_part(row: &[u64]) -> &[u64]
+    requires { ⌜ length (now row) ≡ recordCells ⌝ }
+    ensures { λ r. ⌜ now r ≡ entriesPart (now (row .entry)) ⌝ }
+{
+    &row[LINKS_END..WIDTH]
 }
 
 // The key of the link at place i.

@@ -3,29 +3,34 @@ use mathlib.Core.Path.{_≡_, refl, sym, ap, _∙_}
 use mathlib.Core.List.{List, _∷_}
 use mathlib.Core.Bool.{Bool, true, false, false≢true, cond, _&&_, _||_, not, and-true, and-assoc, or-assoc, or-false}
 use mathlib.Core.Option.{some}
-use Prim.Native.Nat.{ℕ, zero, suc, _+_, _*_, _-_, _%_, _^_, _≤_, _<_}
+use Prim.Native.Nat.{ℕ, zero, suc, _+_, _*_, _-_, _/_, _%_, _^_, _≤_, _<_}
 use native.Mathlib.Nat.{sub-zero}
+use native.Mathlib.Numerals.{add-one}
 use native.Mathlib.Omega.{arith}
 use lib.Dec.{leb, ltb, eqb}
-use lib.ListN.{take, drop, getD}
+use lib.ListN.{length, take, drop, getD}
+use lib.Seq.{drop-cons, drop-length}
 use lib.Pow.{pow-pos}
-use borrow.Author.Tests.{lt-ltb, ltb-true}
+use lib.Bits.{bitOr}
+use borrow.Author.Tests.{lt-ltb, ltb-true, ltb-false, leb-true, leb-false, eq-eqb, ne-eqb}
 use Rattle.lists.specs.Lists.{and, all, maybe}
 use Rattle.lists.specs.Keyed.{lookup, hasKey, rising}
 use Rattle.cells.specs.Area.{allZero, rowsOf, scan}
 use Rattle.lists.proofs.Tests.{and-left, and-right}
 use Rattle.lists.proofs.Lists.{all-map}
-use Rattle.cells.proofs.Keys.{scan-next, scan-stop, scan-end, scan-is}
+use Rattle.cells.proofs.Keys.{no-bit, scan-next, scan-stop, scan-end, scan-is}
 use Rattle.window.specs.Window.{hasMark}
-use Rattle.rules.specs.Settings.{Config, linkCells, interfaceMost}
+use Rattle.wire.specs.Layout.{maskMost}
+use Rattle.wire.specs.Entries.{networkOf, maskOf}
+use Rattle.rules.specs.Settings.{Config, linkCells, interfaceMost, addresses, octets}
 use Rattle.rules.specs.Calls.{interfaceOf, pairs}
-use Rattle.rules.specs.WellFormed.{linkTests, fieldTests}
+use Rattle.rules.specs.WellFormed.{linkTests, entryTests, entriesOk, fieldTests}
 use Rattle.table_record.proofs.Rows.{small-pair}
 use Rattle.table_record.proofs.Links.{link-key, key-cell, linksLeft, left-all, left-one, left-none}
 use Rattle.table_record_check.specs.declared.Limits.{Limits}
 use Rattle.table_record.specs.Links.{linkIn, linksFrom, linkAt}
-use Rattle.table_record.specs.Record.{addressAt, bestAt, linksOf, decodeRecord, unusedLinks, recordOk}
-use Rattle.table_record_check.specs.Limits.{Describes, fieldsOk, marksOk, linksOk}
+use Rattle.table_record.specs.Record.{addressAt, bestAt, linksOf, entriesIn, decodeRecord, unusedLinks, unusedEntries, recordOk}
+use Rattle.table_record_check.specs.Limits.{Describes, fieldsOk, marksOk, linksOk, linksPartOk, entriesPartOk}
 
 pub or-end : (a b c d : Bool) → a || (b || (c || d)) ≡ a || (b || (c || (d || false)))
 or-end true b c d = refl
@@ -122,16 +127,44 @@ links-done κ best part n t h et eh =
     go true h eh = eh refl
     go false h eh = refl
 
+-- ---- the entries
+
+-- what is beyond an address before the mask, and what a mask that is too long carries over
+pub entry-tests : (e : ℕ) → eqb (e / (addresses * octets) + (e % octets + (octets - 1 - maskMost)) / octets) 0 ≡ and (entryTests e)
+unfolding networkOf maskOf
+entry-tests e = go (ltb (e / 256) addresses) refl (leb (e % 256) maskMost) refl
+  where
+    fault : ℕ
+    fault = e / (addresses * octets) + (e % octets + (octets - 1 - maskMost)) / octets
+
+    go : (a : Bool) → ltb (e / 256) addresses ≡ a → (b : Bool) → leb (e % 256) maskMost ≡ b → eqb fault 0 ≡ a && (b && true)
+    go true p true q = eq-eqb fault 0 (omega (arith, ltb-true (e / 256) addresses p, leb-true (e % 256) maskMost q))
+    go true p false q = ne-eqb fault 0 (omega (arith, leb-false (e % 256) maskMost q))
+    go false p b q = ne-eqb fault 0 (omega (arith, ltb-false (e / 256) addresses p))
+
+-- the faults v of the entries before place i, joined with that of the entry there
+pub entries-next : (es : List ℕ) (i : ℕ) → i < length es → (v f : ℕ) → eqb f 0 ≡ and (entryTests (getD es i 0))
+    → eqb v 0 && entriesOk (drop i es) ≡ eqb (bitOr v f) 0 && entriesOk (drop (i + 1) es)
+entries-next es i h v f e =
+    ap (λ (l : List ℕ). eqb v 0 && entriesOk l) (drop-cons es i 0 h) ∙ (λ j. eqb v 0 && (sym e j && entriesOk (drop (sym (add-one i) j) es)))
+    ∙ sym (and-assoc (eqb v 0) (eqb f 0) (entriesOk (drop (i + 1) es))) ∙ ap (λ (b : Bool). b && entriesOk (drop (i + 1) es)) (sym (no-bit v f))
+
+pub entries-end : (es : List ℕ) (i : ℕ) → i ≡ length es → entriesOk (drop i es) ≡ true
+entries-end es i e = ap (λ (k : ℕ). entriesOk (drop k es)) e ∙ ap entriesOk (drop-length es)
+
 -- ---- the whole record
 
-regroup : (l f g z : Bool) → l && (f && (g && true) && z) ≡ l && f && (g && z)
-regroup true true g z = ap (λ (b : Bool). b && z) (and-true g)
-regroup true false g z = refl
-regroup false f g z = refl
+regroup : (l f g e y z : Bool) → l && (f && (g && (e && true)) && (y && z)) ≡ l && f && ((g && y) && (e && z))
+regroup true true true true y z = refl
+regroup true true true false true z = refl
+regroup true true true false false z = refl
+regroup true true false e y z = refl
+regroup true false g e y z = refl
+regroup false f g e y z = refl
 
 -- the tests in the order in which the check makes them
 pub record-tests : (κ : Config) (now low : ℕ) (row : List ℕ)
-    → leb low (getD row addressAt 0) && recordOk κ now row ≡ fieldsOk κ now low row && (linksOk κ (getD row bestAt 0) (linksOf row) && allZero (unusedLinks row))
+    → leb low (getD row addressAt 0) && recordOk κ now row ≡ fieldsOk κ now low row && (linksPartOk κ row && entriesPartOk row)
 unfolding recordOk decodeRecord
 record-tests κ now low row =
-    regroup (leb low (getD row addressAt 0)) (and (fieldTests κ now (decodeRecord row))) (linksOk κ (getD row bestAt 0) (linksOf row)) (allZero (unusedLinks row))
+    regroup (leb low (getD row addressAt 0)) (and (fieldTests κ now (decodeRecord row))) (linksOk κ (getD row bestAt 0) (linksOf row)) (entriesOk (entriesIn row)) (allZero (unusedLinks row)) (allZero (unusedEntries row))

@@ -1,6 +1,8 @@
 // The check of one originator's record, which the check of a table makes of each.
 use cells::all_zero;
 use rules::limits::ADDRESSES;
+use rules::limits::ENTRIES_MOST;
+use rules::limits::ENTRY_VALUES;
 use rules::limits::INTERFACES_MOST;
 use rules::limits::LINKS_MOST;
 use rules::limits::OCTETS;
@@ -8,10 +10,12 @@ use rules::limits::PAIRS;
 use table_record::ADDRESS;
 use table_record::BEST;
 use table_record::CURRENT;
+use table_record::ENTRIES;
 use table_record::LAST_TTL;
 use table_record::LINK;
 use table_record::LINKS;
 use table_record::TIME;
+use table_record::entries_part;
 use table_record::key_at;
 use table_record::links_part;
 use table_record::marks_at;
@@ -19,14 +23,19 @@ use window::Marks;
 use window::NUMBERS;
 use window::fits;
 use window::has_mark;
+use wire::MASK_MOST;
 ghost use mathlib.Core.Path.{_≡_};
 ghost use Prim.Native.Nat.{ℕ, _*_, _≤_};
-ghost use lib.ListN.{length};
-ghost use Rattle.lists.specs.Lists.{elem};
+ghost use lib.Dec.{eqb};
+ghost use lib.ListN.{length, getD};
+ghost use Rattle.lists.specs.Lists.{and, elem};
+ghost use Rattle.cells.specs.Area.{fit};
 ghost use Rattle.window.specs.Marks.{wordOf};
-ghost use Rattle.rules.specs.Settings.{Config, windowMost, linkCells, recordCells};
+ghost use Rattle.rules.specs.Settings.{Config, windowMost, linkMost, entryMost, linkCells, recordCells};
+ghost use Rattle.rules.specs.WellFormed.{entryTests, entriesOk};
 ghost use Rattle.table_record.specs.Links.{linksFrom};
-ghost use Rattle.table_record_check.specs.Limits.{Describes, Windowed, ownOf, marksOk, linksOk, FieldsChecked, LinkChecked, RecordChecked};
+ghost use Rattle.table_record.specs.Record.{linksAt, entriesAt};
+ghost use Rattle.table_record_check.specs.Limits.{Describes, Windowed, ownOf, marksOk, linksOk, linksPartOk, entriesPartOk, FieldsChecked, LinkChecked, RecordChecked};
 
 // What a record is held to: window, interfaces in use, the table's time, and the own addresses, the first again for each that is not in use.
 pub struct Limits {
@@ -89,7 +98,7 @@ fn links_ok(part: &[u64], n: usize, limits: Limits, best: u64) -> bool
     (left == 0) & held
 }
 
-// Whether the fields before the links are in their ranges, where addresses below `low` are passed. They are read as the cells lie.
+// Whether the fields before links and entries are in their ranges, where addresses below `low` are passed. They are read as the cells lie.
 fn fields_ok(row: &[u64], low: u64, limits: Limits) -> bool
     requires { ⌜ length (now row) ≡ recordCells ⌝ }
     ensures { λ r. ⌜ FieldsChecked limits low (now (row .entry)) r ⌝ }
@@ -101,7 +110,55 @@ fn fields_ok(row: &[u64], low: u64, limits: Limits) -> bool
             & (!is_own(limits, address)
                 & ((row[CURRENT] < NUMBERS)
                     & ((row[TIME] <= limits.time)
-                        & ((row[LAST_TTL] < OCTETS) & ((1 <= links) & (links <= LINKS_MOST)))))))
+                        & ((row[LAST_TTL] < OCTETS)
+                            & ((1 <= links)
+                                & ((links <= LINKS_MOST) & (row[ENTRIES] <= ENTRIES_MOST))))))))
+}
+
+// What is added to a mask so that one that is too long is no longer an octet.
+const MASK_SPARE: u64 = OCTETS - 1 - MASK_MOST as u64;
+
+// 0 exactly for an entry that a record may keep: its network is an address, and its mask is not too long.
+fn entry_fault(entry: u64) -> u64
+    ensures { λ r. ⌜ eqb r 0 ≡ and (entryTests entry) ⌝ }
+{
+    entry / ENTRY_VALUES + (entry % OCTETS + MASK_SPARE) / OCTETS
+}
+
+// Whether a record may keep its entries, each by itself. The faults of all are joined, with no early exit: there nearly always are none, and the loop
+// is then done several entries at a time.
+fn entries_ok(part: &[u64], n: usize) -> bool
+    requires { ⌜ n ≤ length (now part) ⌝ }
+    ensures { λ r. ⌜ r ≡ entriesOk (fit n (now (part .entry))) ⌝ }
+{
+    let mut bits: u64 = 0;
+    let mut i = 0;
+    while i < n {
+        bits = bits | entry_fault(part[i]);
+        i += 1;
+    }
+    bits == 0
+}
+
+// Whether the cells of the links are those of links that may be held, and zeros behind them.
+fn links_part_ok(row: &[u64], limits: Limits) -> bool
+    requires { ⌜ (length (now row) ≡ recordCells) × Windowed limits × (getD (now row) linksAt 0 ≤ linkMost) ⌝ }
+    ensures { λ r. ⌜ ((κ : Config) (time : ℕ) → Describes κ time limits → r ≡ linksPartOk κ (now (row .entry))) ⌝ }
+{
+    let part = links_part(row);
+    let n = row[LINKS] as usize;
+    let end = n * LINK;
+    links_ok(part, n, limits, row[BEST]) & all_zero(&part[end..])
+}
+
+// Whether the cells of the entries are those of entries that may be kept, and zeros behind them.
+fn entries_part_ok(row: &[u64]) -> bool
+    requires { ⌜ (length (now row) ≡ recordCells) × (getD (now row) entriesAt 0 ≤ entryMost) ⌝ }
+    ensures { λ r. ⌜ r ≡ entriesPartOk (now (row .entry)) ⌝ }
+{
+    let part = entries_part(row);
+    let n = row[ENTRIES] as usize;
+    entries_ok(part, n) & all_zero(&part[n..])
 }
 
 // Whether the cells are those of a record by the rules, where addresses below `low` are passed.
@@ -112,8 +169,5 @@ pub fn record_ok(row: &[u64], low: u64, limits: Limits) -> bool
     if !fields_ok(row, low, limits) {
         return false;
     }
-    let part = links_part(row);
-    let n = row[LINKS] as usize;
-    let end = n * LINK;
-    links_ok(part, n, limits, row[BEST]) & all_zero(&part[end..])
+    links_part_ok(row, limits) & entries_part_ok(row)
 }

@@ -5,6 +5,8 @@ use mathlib.Core.Option.{Option, none, some}
 use Prim.Native.Nat.{ℕ, zero, suc, _+_, _-_, _<_}
 use native.Mathlib.Omega.{arith}
 use native.Mathlib.Nat.{add-zero, add-suc}
+use lib.Dec.{ltb}
+use borrow.Author.Tests.{ltb-true, ltb-false}
 use Rattle.lists.specs.Lists.{maybe}
 use Rattle.wire.specs.Check.{firstWhere}
 
@@ -44,3 +46,18 @@ pub nowhere : (f : ℕ → Bool) (n : ℕ) → ((k : ℕ) → k < n → f k ≡ 
 unfolding firstWhere
 nowhere f zero h = refl
 nowhere f (suc n) h = rw (nowhere f n (λ k l. h k (omega arith)), h n (omega arith))
+
+-- and the other way
+pub nowhere-false : (f : ℕ → Bool) (n : ℕ) → firstWhere n f ≡ none → (k : ℕ) → k < n → f k ≡ false
+unfolding firstWhere
+nowhere-false f zero e k l = absurd (omega arith)
+nowhere-false f (suc n) e k l = go (firstWhere n f) (f n) (λ p. nowhere-false f n p k) refl e
+  where
+    go : (x : Option ℕ) (t : Bool) → (x ≡ none → k < n → f k ≡ false) → f n ≡ t → maybe x (cond t (some n) none) some ≡ none → f k ≡ false
+    go (some j) t ih q r = absurd (let z : _≡_ {A = ℕ} 0 1 = cc in omega arith)
+    go none true ih q r = absurd (let z : _≡_ {A = ℕ} 0 1 = cc in omega arith)
+    go none false ih q r = last (ltb k n) refl
+      where
+        last : (b : Bool) → ltb k n ≡ b → f k ≡ false
+        last true d = ih refl (ltb-true k n d)
+        last false d = let m = ltb-false k n d in let same : k ≡ n = omega arith in ap f same ∙ q

@@ -2,6 +2,7 @@
 pub mod Layout
 pub mod Packet
 pub mod Check
+pub mod Entries
 pub mod Place
 pub mod PassOn
 pub mod Laws

@@ -33,6 +33,13 @@ pub const HEADER_SIZE: usize = 12;
 
 pub const VERSION_AT: usize = 0;
 
+// The octets of an HNA entry, where its mask stands, and the longest that is allowed.
+pub const ENTRY_SIZE: usize = 5;
+
+pub const MASK_AT: usize = 4;
+
+pub const MASK_MOST: u8 = 32;
+
 // A refusal without a place, or with number 0 none.
 pub fn refusal(number: u64) -> Fault
     ensures { λ r. ⌜ r ≡ numbered number ⌝ }

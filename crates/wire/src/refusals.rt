@@ -26,3 +26,5 @@ pub const NOT_ALLOWED: u64 = 12;
 pub const TTL_TOO_LOW: u64 = 13;
 
 pub const WRONG_BURST: u64 = 14;
+
+pub const ENTRIES_FULL: u64 = 15;

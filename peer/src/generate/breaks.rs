@@ -2,10 +2,10 @@
 //! the table well-formed may be among them; the generator looks and takes it back.
 
 use super::random::Random;
-use crate::book::{INTERFACES_MOST, LINKS_MOST, NEIGHBOURS_MOST};
+use crate::book::{ENTRIES_MOST, INTERFACES_MOST, LINKS_MOST, NEIGHBOURS_MOST};
 use crate::cells::{
     head, interface, interface_at, link, link_at, neighbour, neighbour_at, record, record_at,
-    RECORDS,
+    ENTRY_END, NETWORK_UNIT, RECORDS,
 };
 use crate::script::BUFFER_CELLS;
 
@@ -200,8 +200,10 @@ fn records(cells: &[u64], random: &mut Random, huge: u64) -> Pokes {
     if place > 0 && random.chance(100) {
         return out_of_order(cells, random, at + ORIGINATOR, record::CELLS);
     }
-    if random.chance(500) {
-        return links(cells, random, huge, at);
+    match random.below(1000) {
+        0..350 => return links(cells, random, huge, at),
+        350..750 => return entries(cells, random, huge, at),
+        _ => {}
     }
     let own = cells[interface_at(random.below(cells[head::USED]) as usize) + interface::OWN];
     let links = cells[at + LINKS_HELD];
@@ -267,4 +269,45 @@ fn links(cells: &[u64], random: &mut Random, huge: u64, record: usize) -> Pokes 
             vec![(key_at, other), (best_at, other)]
         }
     }
+}
+
+/// A record that holds entries.
+fn with_entries(cells: &[u64], random: &mut Random) -> Option<usize> {
+    let mut records: Vec<usize> = (0..cells[head::ORIGINATORS_HELD] as usize)
+        .map(record_at)
+        .collect();
+    records.retain(|record| cells[record + record::ENTRIES_HELD] > 0);
+    random.pick_any(&records)
+}
+
+/// The number of entries of a record, or one of its entry cells, in use or not; where none holds
+/// entries, of the record at this cell.
+fn entries(cells: &[u64], random: &mut Random, huge: u64, record: usize) -> Pokes {
+    let record = with_entries(cells, random).unwrap_or(record);
+    let most = ENTRIES_MOST as u64;
+    let held_at = record + record::ENTRIES_HELD;
+    let held = cells[held_at];
+    if random.chance(300) {
+        let fewer = held.saturating_sub(1);
+        return vec![(
+            held_at,
+            random.pick(&[most + 1, most + 1, held + 1, fewer, huge]),
+        )];
+    }
+    let first = record + record::ENTRIES;
+    if held < most && (held == 0 || random.chance(300)) {
+        let unused = held + random.below(most - held);
+        return vec![(first + unused as usize, random.pick(&[1, 32, 256, huge]))];
+    }
+    let at = first + random.below(held) as usize;
+    let network = cells[at] - cells[at] % NETWORK_UNIT;
+    let value = random.pick(&[
+        network + 33,
+        network + 33,
+        network + 255,
+        cells[at] + ENTRY_END,
+        ENTRY_END,
+        u64::MAX,
+    ]);
+    vec![(at, value)]
 }

@@ -57,7 +57,7 @@ impl Generator<'_> {
             .collect();
         let mut time = now;
         let purging = match self.stage.kind {
-            Kind::Runs | Kind::Ties | Kind::Links => 150,
+            Kind::Runs | Kind::Ties | Kind::Entries | Kind::Links => 150,
             Kind::Full => 30,
             _ => 600,
         };

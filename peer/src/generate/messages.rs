@@ -2,7 +2,7 @@
 
 use super::stage::Kind;
 use super::Generator;
-use crate::book::{Receive, INTERFACES_MOST};
+use crate::book::{Receive, ENTRIES_MOST, INTERFACES_MOST, LINKS_MOST};
 use crate::packet::{self, Header, DIRECT, HEADER_OCTETS, PACKET_MOST, UNIDIRECTIONAL};
 use crate::play;
 use crate::script::OUTPUT_MOST;
@@ -130,47 +130,20 @@ impl Generator<'_> {
         }
     }
 
-    /// HNA octets without a fault in them.
-    fn hna(&mut self) -> Vec<u8> {
-        // In a burst more lengths differ: where one copy has no room, a later one may.
-        let none = if self.gathering.is_some() { 600 } else { 820 };
-        let entries = match self.random.below(1000) {
-            roll if roll < none => 0,
-            ..960 => 1 + self.random.below(3),
-            960..994 => 4 + self.random.below(16),
-            994..997 => 292,
-            _ => 286 + self.random.below(7),
-        };
-        let mut hna = Vec::new();
-        for _ in 0..entries {
-            let network = self.random.next() as u32;
-            let any = self.random.below(33) as u8;
-            hna.extend_from_slice(&network.to_be_bytes());
-            hna.push(self.random.pick(&[0, 24, 31, 32, 32, any]));
-        }
-        hna
-    }
-
-    /// At times breaks HNA octets: ragged, or one or two masks above 32.
-    fn spoil_hna(&mut self, hna: &mut Vec<u8>) {
-        if self.random.chance(14) {
-            let more = 1 + self.random.below(4);
-            hna.extend((0..more).map(|_| 255));
-        }
-        if self.random.chance(14) {
-            if hna.len() < 5 {
-                hna.extend_from_slice(&[10, 0, 0, 0, 8]);
-            }
-            for _ in 0..1 + self.random.below(2) {
-                let entry = self.random.below(hna.len() as u64 / 5) as usize;
-                hna[5 * entry + 4] = self.random.pick(&[33, 33, 64, 128, 255]);
-            }
-        }
-    }
-
     pub(super) fn packet(&mut self, flags: u8, ttl: u8, number: u16, originator: u32) -> Vec<u8> {
         let mut hna = self.hna();
         self.spoil_hna(&mut hna);
+        self.packet_with(&hna, flags, ttl, number, originator)
+    }
+
+    fn packet_with(
+        &mut self,
+        hna: &[u8],
+        flags: u8,
+        ttl: u8,
+        number: u16,
+        originator: u32,
+    ) -> Vec<u8> {
         let header = Header {
             version: self.settings().version as u8,
             flags,
@@ -180,7 +153,7 @@ impl Generator<'_> {
             gateway_port: self.random.next() as u16,
             originator,
         };
-        packet::write(&header, &hna)
+        packet::write(&header, hna)
     }
 
     fn output(&mut self, length: usize) -> u64 {
@@ -402,6 +375,36 @@ impl Generator<'_> {
         self.receive_packet(link, packet);
     }
 
+    /// A new number by a ninth link, with more entries than a record keeps: where the eight links
+    /// keep a mark, both are too many.
+    pub(super) fn one_link_more(&mut self) {
+        let held: Vec<u32> = self.book().lists.keys().copied().collect();
+        let ninths: Vec<(u32, Link)> = held
+            .into_iter()
+            .flat_map(|originator| self.ninth_links(originator))
+            .collect();
+        let Some((originator, link)) = self.random.pick_any(&ninths) else {
+            return self.message_by_row();
+        };
+        let window = self.settings().window;
+        let current = words::current(self.book().list_of(originator), window).unwrap_or(0);
+        let hna = self.hna_of(ENTRIES_MOST as u64 + 1);
+        let packet = self.packet_with(&hna, 0, 50, current.wrapping_add(1), originator);
+        self.receive_packet(link, packet);
+    }
+
+    /// The links with a row that an originator's record, which has eight, does not hold.
+    fn ninth_links(&self, originator: u32) -> Vec<(u32, Link)> {
+        let held = match self.book().words_of(originator) {
+            Some(words) if words.held.len() == LINKS_MOST => words.held,
+            _ => return Vec::new(),
+        };
+        let is_held = |link: &Link| held.iter().any(|(other, _)| other == link);
+        let mut others = self.rows();
+        others.retain(|link| !is_held(link));
+        others.into_iter().map(|link| (originator, link)).collect()
+    }
+
     /// A message by every link with a row, in no order; here and there one misses it.
     pub(super) fn message_by_all(&mut self) {
         let originator = self.originator();
@@ -472,7 +475,7 @@ impl Generator<'_> {
         let originator = self.random.pick(&held);
         let back = self.random.below(6) as usize;
         let list = self.book().list_of(originator);
-        let message = list[list.len() - 1 - back.min(list.len() - 1)];
+        let message = list[list.len() - 1 - back.min(list.len() - 1)].clone();
         let ttl = if self.random.chance(400) {
             self.ttl(originator)
         } else {

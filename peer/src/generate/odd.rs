@@ -4,7 +4,7 @@ use super::random::Random;
 use crate::play;
 use crate::script::{BURST_MEMBERS_MOST, BURST_OCTETS_MOST, LINE_MOST, OCTETS_MOST};
 
-const LINES: [&str; 90] = [
+const LINES: [&str; 98] = [
     "receive",
     "receive 0 1 2 12",
     "receive 0 1 2 12 040032000001000000000009 0",
@@ -67,6 +67,14 @@ const LINES: [&str; 90] = [
     "list 1",
     "list 1 17",
     "list 1 8 8",
+    "lookup",
+    "lookup -",
+    "lookup x",
+    "lookup 1 1",
+    "lookup 4294967295",
+    "lookup 4294967296",
+    "lookup 1 # no comment",
+    "  lookup  000 ",
     "check 4",
     "check 4 0",
     "check -1 00",

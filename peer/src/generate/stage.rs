@@ -15,6 +15,8 @@ pub enum Kind {
     Runs,
     /// The same numbers by several links, so that their counts draw level and part by one.
     Ties,
+    /// Several originators that announce the same networks.
+    Entries,
     /// More than 32 neighbours that echo.
     Neighbours,
     /// A short link timeout, reached often.
@@ -40,11 +42,12 @@ pub struct Stage {
 impl Generator<'_> {
     pub(super) fn choose_kind(&mut self) -> Kind {
         match self.random.below(1000) {
-            0..200 => Kind::General,
-            200..360 => Kind::Links,
-            360..520 => Kind::Runs,
-            520..720 => Kind::Ties,
-            720..800 => Kind::Neighbours,
+            0..170 => Kind::General,
+            170..310 => Kind::Links,
+            310..450 => Kind::Runs,
+            450..630 => Kind::Ties,
+            630..730 => Kind::Entries,
+            730..800 => Kind::Neighbours,
             800..975 => Kind::Timeout,
             975..997 => Kind::Full,
             _ => Kind::LongTimeout,
@@ -68,6 +71,7 @@ impl Generator<'_> {
         };
         let capacity = match kind {
             Kind::Full => random.pick(&[64, 64, 64, 256]),
+            Kind::Entries => random.pick(&[3, 8, 8]),
             _ => random.pick(&[1, 2, 3, 8]),
         };
         let settings = Settings {
@@ -75,7 +79,7 @@ impl Generator<'_> {
             window,
             timeout,
             purge: match kind {
-                Kind::Runs | Kind::Ties | Kind::Full => {
+                Kind::Runs | Kind::Ties | Kind::Entries | Kind::Full => {
                     random.pick(&[100, 5000, 640_000, 4_294_967_295])
                 }
                 _ => random.pick(&[1, 2, 10, 100, 5000, 640_000, 4_294_967_295]),

@@ -1,12 +1,18 @@
--- `call_receive_relay::first_heard` meets its contract: not counted, 10, or the record is made. Assumes nothing.
-use mathlib.Core.Path.{refl}
+-- `call_receive_relay::first_heard` meets its contract: not counted, 10, 15, or the record is made. Assumes nothing.
+use mathlib.Core.Path.{_≡_, refl, ap, _∙_, subst}
+use mathlib.Core.List.{List}
+use Prim.Native.Nat.{ℕ}
 use native.Mathlib.Omega.{arith}
 use borrow.Author.Needs.{needs}
 use borrow.Author.Tests.{not-true, not-false}
 use denote.Ref.{now}
+use Rattle.wire.specs.Packet.{hna}
+use Rattle.wire.specs.Check.{entries}
+use Rattle.rules.specs.Messages.{messageOf}
+use Rattle.table_originators.specs.Originators.{Made}
 use Rattle.call_receive_arrival.specs.Receiving.{callOf}
 use Rattle.call_receive_arrival.proofs.Endings.{refused-left}
-use Rattle.call_receive_relay.proofs.Messages.{first-kept, first-full, first-made}
+use Rattle.call_receive_relay.proofs.Messages.{first-kept, first-full, first-many, first-made}
 use Rattle.call_receive_relay.proofs.first_heard.Statement.{statement}
 use Rattle.call_receive_relay.proofs.first_heard.Tie as tie
 
@@ -15,14 +21,21 @@ use Rattle.call_receive_relay.proofs.first_heard.Tie as tie
 abbrev made : tie.After-conclude-arg4 → tie.After-make-record
 made c = c .before .before .before .before
 
-abbrev room : tie.After-make-record → tie.Else2
+abbrev room : tie.After-make-record → tie.Else3
 room c = c .before .before .before
+
+abbrev places : tie.After-entry-count → tie.Else2
+places c = c .before .before
 
 abbrev counted : tie.Else2 → tie.Else1
 counted c = c .before .before .before
 
 abbrev entry : tie.Else1 → tie.Start
 entry c = c .before .before .before .before
+
+-- how many entries the packet has
+many : (c : tie.After-entry-count) → c .entry-count .result ≡ entries (hna (now (entry (counted (places c)) .args .packet)))
+many c = c .entry-count .ensures ∙ ap entries (c .before .hna-of .ensures)
 
 -- ---- the ends
 
@@ -41,19 +54,40 @@ returns-2 c =
     refused-left (s .pre .0 .taken .knows) (callOf (now (s .args .packet)) (now (s .args .out)) (s .args .m)) (first-full (s .pre .0) (s .pre .1) (not-false _ (e .if1 .left)) (t .if2 .taken)) refl (c .before .refusal .ensures)
     (c .refused .ensures)
 
+returns-3 : tie.Need-returns-3
+returns-3 c =
+    let t = c .before .before in
+    let n = t .before in
+    let r = places n in
+    let e = counted r in
+    let s = entry e in
+    refused-left (s .pre .0 .taken .knows) (callOf (now (s .args .packet)) (now (s .args .out)) (s .args .m))
+    (first-many (s .pre .0) (s .pre .1) (not-false _ (e .if1 .left)) (omega (arith, r .if2 .left)) (omega (arith, t .if3 .taken, many n))) refl (c .before .refusal2 .ensures) (c .refused2 .ensures)
+
+make-record-requires : tie.Need-make-record-requires
+make-record-requires c κs =
+    let n = c .before .before .before in
+    let r = places n in
+    let s = entry (counted r) in
+    (s .pre .1, omega (arith, r .if2 .left), s .pre .0 .taken .link, omega (arith, c .before .before .if3 .left, n .entry-count .ensures))
+
 conclude-requires-2 : tie.Need-conclude-requires-2
 conclude-requires-2 c κs =
     let m = made c in
-    let t = entry (counted (room m)) .pre .0 .taken in (t .fits, omega (arith, t .knows .sized .size, m .make-record .kept .0))
+    let t = entry (counted (places (room m .before))) .pre .0 .taken in (t .fits, omega (arith, t .knows .sized .size, m .make-record .kept .0))
 
-returns-3 : tie.Need-returns-3
-returns-3 c =
+returns-4 : tie.Need-returns-4
+returns-4 c =
     let k = c .before .before .before .before in
     let m = made (k .before) in
-    let r = room m in
+    let l = room m in
+    let n = l .before in
+    let r = places n in
     let e = counted r in
     let s = entry e in
-    first-made (s .pre .0) (s .pre .1) (not-false _ (e .if1 .left)) (omega (arith, r .if2 .left)) (m .make-record .ensures) (k .conclude2 .ensures)
+    let a = s .args in
+    let record-made = subst (λ (x : List ℕ). Made (now (a .cells)) (m .make-record .last .0) (a .m .originator) (messageOf (a .m .ogm) x) (m .make-record .result)) (n .before .hna-of .ensures) (m .make-record .ensures) in
+    first-made (s .pre .0) (s .pre .1) (not-false _ (e .if1 .left)) (omega (arith, r .if2 .left)) (omega (arith, l .if3 .left, many n)) record-made (k .conclude2 .ensures)
 
 pub first-heard-spec : {M : Type 1} → statement M
 first-heard-spec =
@@ -70,7 +104,12 @@ first-heard-spec =
     (λ c κs. search needs)
     returns-2
     (λ c κs. search needs)
+    (λ c κs. search needs)
+    (λ c κs. search needs)
+    (λ c κs. search needs)
+    returns-3
+    make-record-requires
     conclude-requires-2
     (λ c. search needs)
     (λ c. search needs)
-    returns-3)
+    returns-4)

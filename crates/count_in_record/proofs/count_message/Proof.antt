@@ -1,25 +1,31 @@
--- The links are recounted on a scratch; the row is written where they fit, and is then the next record's.
+-- The links are recounted on a scratch; the row is written where they and the entries fit, and is then the next record's.
 use borrow.Author.Needs.{needs}
-use mathlib.Core.Path.{_≡_, refl, sym, ap, subst}
+use mathlib.Core.Path.{_≡_, refl, sym, ap, _∙_, subst}
+use mathlib.Core.Bool.{true, not}
 use mathlib.Core.List.{List}
 use Prim.Native.Nat.{ℕ, _*_, _≤_, _<_}
 use native.Mathlib.Omega.{arith}
+use lib.Dec.{ltb}
+use borrow.Author.Tests.{ltb-true, ltb-false}
 use lib.ListN.{length, take, getD}
 use lib.Seq.{length-take-le}
-use Rattle.window.specs.Window.{numbers}
-use Rattle.rules.specs.Settings.{linkMost, linkCells}
+use Rattle.lists.proofs.Tests.{and-left, and-right, and-open}
+use Rattle.window.specs.Window.{numbers, inside}
+use Rattle.wire.proofs.Entries.{length-entries}
+use Rattle.rules.specs.Settings.{linkMost, entryMost, linkCells}
+use Rattle.rules.specs.Messages.{Message, messageOf}
 use Rattle.table_record.specs.Links.{linksFrom}
 use Rattle.table_record.specs.Record.{currentAt, linksAt}
 use Rattle.table_record.proofs.Rows.{part-size}
 use Rattle.count_links.specs.Links.{SpotOf}
-use Rattle.count_in_record.proofs.Rows.{next-near, counted-not, counted-now}
+use Rattle.count_in_record.proofs.Rows.{next-near, counted-11, counted-15, counted-now}
 use Rattle.count_in_record.proofs.count_message.Statement.{statement}
 use Rattle.count_in_record.proofs.count_message.Tie as tie
 
 -- ---- the places before each
 
 abbrev from-advance : tie.After-advance → tie.Start
-from-advance c = c .before .before .before .before
+from-advance c = c .before .before .before .before .before
 
 abbrev from-links : tie.After-links-part → tie.After-advance
 from-links c = c .before .before .before .before .before
@@ -27,8 +33,18 @@ from-links c = c .before .before .before .before .before
 abbrev from-out : tie.After-out2 → tie.After-links-part
 from-out c = c .before .before
 
-abbrev from-store : tie.After-out3 → tie.After-out2
+abbrev from-many : tie.After-too-many → tie.After-out2
+from-many c = c .before .before .before
+
+abbrev from-store : tie.After-out3 → tie.After-too-many
 from-store c = c .before .before .before .before
+
+abbrev entry : tie.After-out2 → tie.Start
+entry c = from-advance (from-links (from-out c))
+
+-- its message
+abbrev said : tie.Start → Message
+said s = messageOf (s .args .m) (s .args .hna .now)
 
 -- its number has two octets
 small : (s : tie.Start) → s .args .m .sequence < numbers
@@ -48,12 +64,36 @@ recount-requires c κs =
 
 returns : tie.Need-returns
 returns c κ f =
-    let out = c .before in
+    let out = c .before .before in
     let links = from-out out in
     let next = from-links links in
-    let a = from-advance next .args in
-    counted-not κ (a .row .now) (a .m) f (small (from-advance next)) (next .advance .ensures) (links .before .before .before .before .distance .ensures) (links .before .before .before .distance2 .ensures) (links .links-part .ensures)
-    (out .before .recount .ensures) (c .if1 .taken)
+    let s = entry out in
+    counted-11 κ (s .args .row .now) (said s) f (small s) (next .advance .ensures) (links .before .before .before .before .distance .ensures) (links .before .before .before .distance2 .ensures) (links .links-part .ensures)
+    (out .before .recount .ensures) (c .before .if1 .taken) (c .refusal .ensures)
+
+-- whether the entries are replaced, and whether they are too many
+replaced-is : (c : tie.After-inside) → let a = entry (c .before .before) .args in not (c .inside .result) ≡ not (inside (a .p .window) (getD (a .row .now) currentAt 0) (a .m .sequence))
+replaced-is c = ap not (c .inside .ensures)
+
+many-is : (c : tie.After-too-many) → let s = entry (from-many c) in c .too-many .result ≡ ltb entryMost (length (said s .entries))
+many-is c = let s = entry (from-many c) in c .too-many .ensures ∙ ap (ltb entryMost) (sym (length-entries (s .args .hna .now)))
+
+returns-2 : tie.Need-returns-2
+returns-2 c κ f =
+    let t = c .before in
+    let many = t .before in
+    let out = from-many many in
+    let links = from-out out in
+    let next = from-links links in
+    let s = entry out in
+    let new = not (many .before .inside .result) in
+    counted-15 κ (s .args .row .now) (said s) f (small s) (next .advance .ensures) (links .before .before .before .before .distance .ensures) (links .before .before .before .distance2 .ensures) (links .links-part .ensures)
+    (out .before .recount .ensures) (many .before .before .if1 .left) (replaced-is (many .before)) (and-left new (many .too-many .result) (t .if2 .taken))
+    (ltb-true entryMost (length (said s .entries)) (sym (many-is many) ∙ and-right new (many .too-many .result) (t .if2 .taken))) (c .refusal2 .ensures)
+
+-- entries that replace others are not too many
+few : (c : tie.Else2) → let m = c .before in not (m .before .inside .result) ≡ true → length (said (entry (from-many m)) .entries) ≤ entryMost
+few c t = let m = c .before in ltb-false entryMost (length (said (entry (from-many m)) .entries)) (sym (many-is m) ∙ and-open (not (m .before .inside .result)) (m .too-many .result) (c .if2 .left) t)
 
 -- the links, as they are lent to be written
 abbrev end : tie.After-out2 → ℕ
@@ -62,21 +102,27 @@ end c = c .before .recount .result .links * linkCells
 links-length : (c : tie.After-out2) → c .before .recount .result .links ≤ linkMost → length (take (end c) (c .before .recount .last .0)) ≡ end c
 links-length c h = length-take-le (end c) (c .before .recount .last .0) (omega (arith, c .before .recount .kept .0))
 
-store-requires : tie.Need-store-requires
-store-requires c κs =
-    let out = from-store c in
-    let h = c .before .before .before .if1 .left in
-    (from-advance (from-links (from-out out)) .pre .0 .size, omega (arith, links-length out h))
+-- no more links are left than there is room for
+room : (c : tie.After-too-many) → from-many c .before .recount .result .links ≤ linkMost
+room c = c .before .before .if1 .left
 
-returns-2 : tie.Need-returns-2
-returns-2 c κ f =
+store-message-requires : tie.Need-store-message-requires
+store-message-requires c κs =
+    let many = from-store c in
+    let out = from-many many in
+    let s = entry out in
+    (s .pre .0 .size, omega (arith, links-length out (room many)), λ t. omega (arith, few (c .before .before .before) t, length-entries (s .args .hna .now)))
+
+returns-3 : tie.Need-returns-3
+returns-3 c κ f =
     let stored = c .before .before .before in
-    let out = from-store (stored .before) in
+    let many = from-store (stored .before) in
+    let out = from-many many in
     let links = from-out out in
     let next = from-links links in
-    let a = from-advance next .args in
-    counted-now κ (a .row .now) (a .m) f (small (from-advance next)) (next .advance .ensures) (links .before .before .before .before .distance .ensures) (links .before .before .before .distance2 .ensures) (links .links-part .ensures)
-    (out .before .recount .ensures) _ (out .before .recount .kept .0) (stored .before .before .before .before .if1 .left) (stored .store .ensures)
+    let s = entry out in
+    counted-now κ (s .args .row .now) (said s) f (small s) (next .advance .ensures) (links .before .before .before .before .distance .ensures) (links .before .before .before .distance2 .ensures) (links .links-part .ensures)
+    (out .before .recount .ensures) (room many) (replaced-is (many .before)) (s .pre .0) (few (stored .before .before .before .before)) _ (out .before .recount .kept .0) (sym (length-entries (s .args .hna .now))) (stored .store-message .ensures)
 
 pub count-message-spec : {M : Type 1} → statement M
 count-message-spec =
@@ -92,11 +138,17 @@ count-message-spec =
     (λ c κs. search needs)
     (λ c. search needs)
     recount-requires
+    (λ c κs. search needs)
     (λ c. search needs)
     returns
+    (λ c κs. search needs)
+    (λ c κs. search needs)
+    (λ c κs. search needs)
+    (λ c. search needs)
+    returns-2
     (λ c. search needs)
     (λ c. search needs)
-    (λ c. sym (links-length (from-store c) (c .before .before .before .if1 .left)))
-    store-requires
+    (λ c. sym (links-length (from-many (from-store c)) (room (from-store c))))
+    store-message-requires
     (λ c. search needs)
-    returns-2)
+    returns-3)

@@ -8,6 +8,7 @@ use lib.ListN.{getD}
 use borrow.Author.Tests.{not-true, not-false}
 use Rattle.cells.specs.Find.{Sorted}
 use Rattle.rules.specs.Settings.{Config, Follows, linkCells, octets}
+use Rattle.rules.specs.Messages.{Message, messageOf}
 use Rattle.table_record.specs.Links.{linksFrom}
 use Rattle.table_record.specs.Record.{linksAt, linksOf}
 use Rattle.table_record.proofs.Routes.{held-sorted}
@@ -16,14 +17,14 @@ use Rattle.count_in_record.specs.declared.Counting.{Counting}
 use Rattle.count_in_record.specs.declared.Counting.the-variants.{Done}
 use Rattle.count_in_record.specs.Counting.{CountedIn}
 use Rattle.count_in_record.proofs.Left.{some-config, some-follows, counted-held}
-use Rattle.count_in_record.proofs.Hearing.{heard-kept, counted-marks, heard-counted, heard-full}
+use Rattle.count_in_record.proofs.Hearing.{heard-kept, counted-marks, heard-counted, heard-refused}
 use Rattle.count_in_record.proofs.hear.Statement.{statement}
 use Rattle.count_in_record.proofs.hear.Tie as tie
 
 -- ---- the places before each
 
 abbrev from-links : tie.After-links-part → tie.Start
-from-links c = c .before .before .before
+from-links c = c .before .before .before .before
 
 abbrev from-duplicate : tie.After-is-duplicate → tie.After-locate
 from-duplicate c = c .before .before .before
@@ -37,11 +38,15 @@ from-else c = c .before
 abbrev entry : tie.After-is-duplicate → tie.Start
 entry c = from-links (from-duplicate c .before)
 
-abbrev from-full : tie.After-enum-told → tie.After-count-message
-from-full c = c .before .before .before .before
+abbrev from-refused : tie.After-counting → tie.After-count-message
+from-refused c = c .before .before .before .before
 
-abbrev from-done : tie.After-counting → tie.After-count-message
+abbrev from-done : tie.After-counting2 → tie.After-count-message
 from-done c = c .before .before .before .before
+
+-- its message
+abbrev said : tie.Start → Message
+said s = messageOf (s .args .m) (s .args .hna .now)
 
 -- the TTL is an octet
 small : (s : tie.Start) → s .args .m .ttl < octets
@@ -64,15 +69,16 @@ is-duplicate-requires c κs =
     let s = from-links (located .before) in (s .pre .0, s .pre .1, spot-is located .marks)
 
 -- counted or refused, as the enum says
-ended : (c : tie.After-count-message) {r : Counting} → c .count-message .result ≡ r → (κ : Config) → let a = entry (from-else (c .before .before)) .args in Follows κ (a .p) → CountedIn κ (a .m) (a .row .now) (c .count-message .last .0) r
-ended c e κ f = let a = entry (from-else (c .before .before)) .args in subst (CountedIn κ (a .m) (a .row .now) _) e (c .count-message .ensures κ f)
+ended : (c : tie.After-count-message) {r : Counting} → c .count-message .result ≡ r → (κ : Config) → let s = entry (from-else (c .before .before)) in Follows κ (s .args .p) → CountedIn κ (said s) (s .args .row .now) (c .count-message .last .0) r
+ended c e κ f = let s = entry (from-else (c .before .before)) in subst (CountedIn κ (said s) (s .args .row .now) _) e (c .count-message .ensures κ f)
 
 returns : tie.Need-returns
 returns c κ f =
     let told = c .before .before .before .before in
     let d = from-then told in
-    let a = entry d .args in
-    heard-kept κ (a .m) (a .bidirectional) (a .row .now) (d .is-duplicate .ensures κ f) (not-true _ (told .if1 .taken)) (c .answer-of .ensures κ f)
+    let s = entry d in
+    let a = s .args in
+    heard-kept κ (said s) (a .bidirectional) (a .row .now) (d .is-duplicate .ensures κ f) (not-true _ (told .if1 .taken)) (c .answer-of .ensures κ f)
 
 count-message-requires : tie.Need-count-message-requires
 count-message-requires c κs =
@@ -81,15 +87,17 @@ count-message-requires c κs =
 
 returns-2 : tie.Need-returns-2
 returns-2 c κ f =
-    let counted = from-full c in
+    let t = c .before in
+    let counted = from-refused t in
     let told = counted .before .before in
     let d = from-else told in
-    let a = entry d .args in
-    heard-full κ (a .m) (a .bidirectional) (a .row .now) (d .is-duplicate .ensures κ f) (not-false _ (told .if1 .left)) (ended counted (c .enum-told .given .1) κ f)
+    let s = entry d in
+    let a = s .args in
+    heard-refused κ (said s) (a .bidirectional) (a .row .now) (d .is-duplicate .ensures κ f) (t .counting .given .0 .0) (not-false _ (told .if1 .left)) (ended counted (t .counting .given .1) κ f)
 
 -- counted, with these marks
-done : (c : tie.After-counting) (κ : Config) → let a = entry (from-else (from-done c .before .before)) .args in Follows κ (a .p) → CountedIn κ (a .m) (a .row .now) (from-done c .count-message .last .0) (Done (c .counting .given .0 .0))
-done c = ended (from-done c) (c .counting .given .1)
+done : (c : tie.After-counting2) (κ : Config) → let s = entry (from-else (from-done c .before .before)) in Follows κ (s .args .p) → CountedIn κ (said s) (s .args .row .now) (from-done c .count-message .last .0) (Done (c .counting2 .given .0 .0))
+done c = ended (from-done c) (c .counting2 .given .1)
 
 answer-counted-requires : tie.Need-answer-counted-requires
 answer-counted-requires c κs =
@@ -97,7 +105,7 @@ answer-counted-requires c κs =
     let d = from-else (from-done t .before .before) in
     let s = entry d in
     let p = s .args .p in
-    let m = s .args .m in
+    let m = said s in
     let row = s .args .row .now in
     let w = done t (some-config p) (some-follows p) in
     (counted-held (some-config p) m (small s) (s .pre .2) _ row _ (s .pre .0) w, s .pre .1, counted-marks (some-config p) m (s .args .bidirectional) row (d .is-duplicate .ensures (some-config p) (some-follows p)) _ w)
@@ -107,8 +115,9 @@ returns-3 c κ f =
     let t = c .before .before .before in
     let told = from-done t .before .before in
     let d = from-else told in
-    let a = entry d .args in
-    heard-counted κ (a .m) (a .bidirectional) (a .row .now) (d .is-duplicate .ensures κ f) _ (done t κ f) (not-false _ (told .if1 .left)) (c .answer-counted .ensures κ f)
+    let s = entry d in
+    let a = s .args in
+    heard-counted κ (said s) (a .bidirectional) (a .row .now) (d .is-duplicate .ensures κ f) _ (done t κ f) (not-false _ (told .if1 .left)) (c .answer-counted .ensures κ f)
 
 pub hear-spec : {M : Type 1} → statement M
 hear-spec =

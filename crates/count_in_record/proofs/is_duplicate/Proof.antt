@@ -21,7 +21,7 @@ in-window c = sym (c .before .inside .ensures) ∙ not-false _ (c .if1 .left)
 returns : tie.Need-returns
 returns c κ f =
     let a = from-inside (c .before) .args in
-    marked-by κ (a .row .now) (a .m) f (omega arith) (sym (c .before .inside .ensures) ∙ not-true _ (c .if1 .taken))
+    marked-by κ (a .row .now) (a .m .link) (a .m .sequence) f (omega arith) (sym (c .before .inside .ensures) ∙ not-true _ (c .if1 .taken))
 
 is-marked-requires : tie.Need-is-marked-requires
 is-marked-requires c κs =
@@ -34,7 +34,7 @@ returns-2 c κ f =
     let near = c .before in
     let s = from-inside (near .before .before) in
     let a = s .args in
-    marked-inside κ (a .row .now) (a .m) f (omega arith) (in-window (near .before)) (s .pre .2) (near .distance .ensures) (c .is-marked .ensures)
+    marked-inside κ (a .row .now) (a .m .link) (a .m .sequence) f (omega arith) (in-window (near .before)) (s .pre .2) (near .distance .ensures) (c .is-marked .ensures)
 
 pub is-duplicate-spec : {M : Type 1} → statement M
 is-duplicate-spec =

@@ -1,10 +1,13 @@
--- Five cells are set, and those after them are lent to be filled with the links, so the row is the address and these.
+-- Five cells are set, and those of the links are lent to be filled with them, so the row is the address, these, and the entries as they were.
 use borrow.Author.Needs.{needs}
 use mathlib.Core.Path.{ap}
 use Prim.Native.Nat.{_*_}
 use native.Mathlib.Omega.{arith}
-use lib.ListN.{length, length-set}
+use lib.ListN.{length, length-set, length-append}
+use Rattle.cells.specs.Area.{fit}
 use Rattle.cells.proofs.Areas.{length-fit}
+use Rattle.table_record.specs.Record.{entriesPart}
+use Rattle.table_record.proofs.Rows.{entries-size}
 use Rattle.rules.specs.Settings.{linkMost, linkCells}
 use Rattle.count_in_record.proofs.Rows.{lent-size, store-cells}
 use Rattle.count_in_record.proofs.store.Statement.{statement}
@@ -17,11 +20,8 @@ from-fields c = c .before .before .before
 slice-write-row-5 : tie.Need-slice-write-row-5
 slice-write-row-5 c = simp length-set (omega arith)
 
-sub-fill : tie.Need-sub-fill
-sub-fill c = simp length-set (omega arith)
-
-part-fill-start : tie.Need-part-fill-start
-part-fill-start c = simp length-set (omega arith)
+part-fill-end : tie.Need-part-fill-end
+part-fill-end c = simp length-set (omega arith)
 
 fill-requires : tie.Need-fill-requires
 fill-requires c κs =
@@ -40,7 +40,9 @@ returns c =
 same-length : tie.Need-same-length
 same-length c =
     let s = from-fields (c .before .before .before .before) in
-    omega (arith, ap length (returns c), length-fit (linkMost * linkCells) (s .args .links .now), s .pre .0)
+    let row = s .args .row .now in
+    let ls = fit (linkMost * linkCells) (s .args .links .now) in
+    omega (arith, ap length (returns c), length-append ls (entriesPart row), length-fit (linkMost * linkCells) (s .args .links .now), entries-size row (s .pre .0), s .pre .0)
 
 pub store-spec : {M : Type 1} → statement M
 store-spec =
@@ -52,9 +54,9 @@ store-spec =
     (λ c. search needs)
     (λ c. search needs)
     slice-write-row-5
-    sub-fill
-    part-fill-start
     (λ c. search needs)
+    (λ c. search needs)
+    part-fill-end
     fill-requires
     same-length
     returns)

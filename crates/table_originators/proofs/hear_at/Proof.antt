@@ -4,6 +4,7 @@ use mathlib.Core.Path.{sym, subst}
 use denote.Ref.{now}
 use Rattle.cells.proofs.Lent.{part-is}
 use Rattle.rules.specs.Settings.{recordCells}
+use Rattle.rules.specs.Messages.{messageOf}
 use Rattle.table_record.specs.Record.{Held}
 use Rattle.table_layout.specs.Cells.{decode}
 use Rattle.table_originators.specs.Originators.{recordPlace}
@@ -13,7 +14,7 @@ use Rattle.table_originators.proofs.hear_at.Tie as tie
 
 -- the function's entry
 abbrev from-policy : tie.After-policy-of → tie.Start
-from-policy c = c .before .before .before
+from-policy c = c .before .before .before .before
 
 hear-requires : tie.Need-hear-requires
 hear-requires c κs =
@@ -28,7 +29,7 @@ returns c o t =
     let heard = c .before .before in
     let policy = heard .before .before in
     let a = from-policy policy .args in
-    heard-in (now (a .cells)) o (a .i) t (a .m) (a .bidirectional) _ _ (heard .hear .ensures (decode (now (a .cells)) .config) (policy .policy-of .ensures .0))
+    heard-in (now (a .cells)) o (a .i) t (messageOf (a .m) (now (a .hna))) (a .bidirectional) _ _ (heard .hear .ensures (decode (now (a .cells)) .config) (policy .policy-of .ensures .0))
 
 pub hear-at-spec : {M : Type 1} → statement M
 hear-at-spec =

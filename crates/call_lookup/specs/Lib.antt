@@ -1,0 +1,2 @@
+-- The lookup on a table's cells.
+pub mod Scan

@@ -1,0 +1,2 @@
+-- A record's row that keeps a message's entries.
+pub mod Rows
