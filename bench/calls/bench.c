@@ -31,9 +31,13 @@ enum { AT_1, AT_16, AT_64, AT_256, SIZES };
 
 static const unsigned sizes[SIZES] = {[AT_1] = 1, [AT_16] = 16, [AT_64] = 64, [AT_256] = MOST}; /* originators */
 
-static const uint8_t hna[] = {10, 7, 0, 0, 16, 192, 168, 4, 0, 24};
+static const uint8_t own_hna[] = {10, 7, 0, 0, 16, 192, 168, 4, 0, 24};
 
-enum { PACKET = 12 + sizeof hna };
+/* Every message of an originator has as many entries as are held: one with a new number replaces 16 by 16. */
+enum { ENTRIES = BATMAN_ENTRIES_MOST, PACKET = 12 + 5 * ENTRIES };
+
+/* All networks lie in this one, which every originator announces too. */
+enum { YARD_NETWORK = 0x0ab00000, YARD_MASK = 12, NETWORK_MASK = 24, HOST = 9 };
 
 struct arrival {
     uint8_t packet[PACKET];
@@ -74,14 +78,33 @@ static uint64_t below(struct mesh *m, uint64_t n) { return random_below(&m->rand
 static uint32_t address_of(unsigned originator) { return 0x0a010001u + originator * 259; }
 static uint64_t interface_of(unsigned neighbour) { return neighbour % 2; }
 
+/* The networks of each originator are numbered from 0; no two are the same. */
+static uint32_t network_of(unsigned originator, unsigned n) { return YARD_NETWORK + 256 * ((ENTRIES - 1) * originator + n); }
+
 /* ---- arrivals */
 
+static void write_entry(uint8_t *entry, uint32_t network, uint8_t mask)
+{
+    const uint8_t octets[] = {(uint8_t)(network >> 24), (uint8_t)(network >> 16), (uint8_t)(network >> 8), (uint8_t)network, mask};
+    memcpy(entry, octets, sizeof octets);
+}
+
+/* The entries are left zeros: what an echo has there doesn't matter. */
 static struct arrival arrive(struct mesh *m, uint32_t originator, uint16_t sequence, unsigned neighbour, uint8_t flags)
 {
-    struct arrival a = {{4, flags, (uint8_t)(40 + below(m, 4)), 0, (uint8_t)(sequence >> 8), (uint8_t)sequence, 0, 0, (uint8_t)(originator >> 24),
-                         (uint8_t)(originator >> 16), (uint8_t)(originator >> 8), (uint8_t)originator},
-                        address_of(neighbour), interface_of(neighbour), ++m->time};
-    memcpy(a.packet + 12, hna, sizeof hna);
+    return (struct arrival){{4, flags, (uint8_t)(40 + below(m, 4)), 0, (uint8_t)(sequence >> 8), (uint8_t)sequence, 0, 0, (uint8_t)(originator >> 24),
+                             (uint8_t)(originator >> 16), (uint8_t)(originator >> 8), (uint8_t)originator},
+                            address_of(neighbour), interface_of(neighbour), ++m->time};
+}
+
+/* An originator's current number by a neighbour: whichever link brings it, it has the same entries. */
+static struct arrival message(struct mesh *m, unsigned o, unsigned neighbour)
+{
+    struct arrival a = arrive(m, address_of(o), m->sequence[o], neighbour, 0);
+    uint8_t *entry = a.packet + 12;
+    write_entry(entry, YARD_NETWORK, YARD_MASK);
+    for (unsigned n = 0; n < ENTRIES - 1; n++)
+        write_entry(entry += 5, network_of(o, n), NETWORK_MASK);
     return a;
 }
 
@@ -97,14 +120,15 @@ static struct arrival relayed(struct mesh *m, unsigned o)
     while (m->heard[o] >> link & 1)
         link = (link + 1) % LINKS;
     m->heard[o] |= (uint8_t)(1u << link);
-    return arrive(m, address_of(o), m->sequence[o], link, 0);
+    return message(m, o, link);
 }
 
 /* A neighbour's own packet. */
 static struct arrival direct(struct mesh *m, unsigned o)
 {
     m->heard[o] = (uint8_t)(1u << o);
-    return arrive(m, address_of(o), ++m->sequence[o], o, 0);
+    m->sequence[o]++;
+    return message(m, o, o);
 }
 
 static struct batman_received take(const struct version *v, void *table, size_t count, const struct arrival *a)
@@ -127,7 +151,7 @@ static void echo_all(struct mesh *m)
         struct batman_written w = {0, 0, 0, 0};
         uint8_t out[12];
         for (int v = 0; v < VERSIONS; v++)
-            w = versions[v]->own_packet(m->table[v], m->count, i, m->time, 50, 0, 0, hna, 0, out, sizeof out);
+            w = versions[v]->own_packet(m->table[v], m->count, i, m->time, 50, 0, 0, NULL, 0, out, sizeof out);
         for (unsigned n = 0; n < LINKS; n++) {
             struct arrival a = arrive(m, 0x0a020001u + (uint32_t)i, w.sequence, n, 64);
             if (interface_of(n) == i)
@@ -155,6 +179,18 @@ static void *memory(size_t octets)
     return p;
 }
 
+/* An address in one of the networks, a different one for each i: covered by that network's entry, and by one with a shorter mask of every originator. */
+static uint32_t looked_up(const struct mesh *m, unsigned i) { return network_of(i * 7 % m->originators, i % (ENTRIES - 1)) + HOST; }
+
+/* Each record has its 16 entries: the last of them is found. */
+static void all_entries_held(const struct mesh *m)
+{
+    for (unsigned o = 0; o < m->originators; o++)
+        for (int v = 0; v < VERSIONS; v++)
+            if (versions[v]->lookup(m->table[v], m->count, network_of(o, ENTRIES - 2)).originator != address_of(o))
+                stop("an originator's entries are not held");
+}
+
 static void open_mesh(struct mesh *m, int size, enum batman_tie tie)
 {
     unsigned originators = sizes[size];
@@ -175,6 +211,7 @@ static void open_mesh(struct mesh *m, int size, enum batman_tie tie)
     echo_all(m);
     for (int i = 0; i < FILLING; i++)
         hear_round(m, originators);
+    all_entries_held(m);
 }
 
 static void close_mesh(struct mesh *m)
@@ -246,7 +283,7 @@ static uint64_t play_own(const struct version *v, struct mesh *m, int place, con
     uint8_t out[PACKET];
     uint64_t sum = 0;
     for (unsigned i = 0; i < s->calls; i++)
-        sum += v->own_packet(m->table[place], m->count, 0, s->time, 50, 0, 0, hna, sizeof hna, out, sizeof out).sequence + out[5];
+        sum += v->own_packet(m->table[place], m->count, 0, s->time, 50, 0, 0, own_hna, sizeof own_hna, out, sizeof out).sequence + out[5];
     return sum;
 }
 
@@ -273,6 +310,16 @@ static uint64_t play_best(const struct version *v, struct mesh *m, int place, co
     uint64_t sum = 0;
     for (unsigned i = 0; i < s->calls; i++)
         sum += v->best(m->table[place], m->count, address_of(i * 7 % m->originators)).route.count;
+    return sum;
+}
+
+static uint64_t play_lookup(const struct version *v, struct mesh *m, int place, const struct slice *s)
+{
+    uint64_t sum = 0;
+    for (unsigned i = 0; i < s->calls; i++) {
+        struct batman_located l = v->lookup(m->table[place], m->count, looked_up(m, i));
+        sum += l.originator + l.network + l.mask;
+    }
     return sum;
 }
 
@@ -325,13 +372,13 @@ static void prepare_copies(struct mesh *m, struct slice *s)
 {
     s->calls = m->copies;
     s->time = m->time;
-    s->arrival[0] = arrive(m, address_of(m->originators / 2), m->sequence[m->originators / 2], 0, 0);
+    s->arrival[0] = message(m, m->originators / 2, 0);
 }
 
 /* ---- timing */
 
 /* The rows, as docs/BENCHMARK.md shows them: those of bursts in a table of their own. */
-enum { RELAYED, TIES, DIRECT, OWN, SWEEP, BEST, CHECK, SWEEP_ONE, FIRST, BURST_8, BURST_32, ROWS };
+enum { RELAYED, TIES, DIRECT, OWN, SWEEP, BEST, LOOKUP, CHECK, SWEEP_ONE, FIRST, BURST_8, BURST_32, ROWS };
 
 static const struct row {
     const char *name;
@@ -346,6 +393,7 @@ static const struct row {
     [OWN] = {"own packet, 2 HNA entries", prepare_time, play_own, false, 0},
     [SWEEP] = {"sweep, none removed", prepare_time, play_sweep, false, 0},
     [BEST] = {"best question", prepare_time, play_best, false, 0},
+    [LOOKUP] = {"lookup", prepare_time, play_lookup, false, 0},
     [CHECK] = {"packet check, 62 octets", prepare_time, play_check, false, 0},
     [SWEEP_ONE] = {"sweep, one removed", prepare_copies, play_sweep_one, true, 0},
     [FIRST] = {"receive, first of originator", prepare_copies, play_first, true, 0},
@@ -438,7 +486,7 @@ static void same_cells(const struct mesh *m)
 
 static void time_mesh(int size)
 {
-    static const int steady[] = {RELAYED, BURST_8, BURST_32, DIRECT, OWN, SWEEP, BEST, CHECK};
+    static const int steady[] = {RELAYED, BURST_8, BURST_32, DIRECT, OWN, SWEEP, BEST, LOOKUP, CHECK};
     static struct mesh m;
     open_mesh(&m, size, BATMAN_NEWEST_WINS); /* as it was before there was a choice: these rows stay comparable */
     for (size_t i = 0; i < sizeof steady / sizeof *steady; i++)
@@ -501,13 +549,25 @@ static void print_aim(const char *aim, double most, double is)
     printf("%s: at most %.2f, and is %.3f: %s\n", aim, most, is, is <= most ? "holds" : "doesn't hold");
 }
 
-static double slowest_burst(void)
+static double larger(double a, double b) { return a > b ? a : b; }
+
+/* The highest ratio to (a) of the rows from one on. */
+static double slowest_from(int from)
 {
     double most = 0;
-    for (int row = BURST_8; row <= BURST_32; row++)
+    for (int row = from; row < ROWS; row++)
         for (int size = 0; size < SIZES; size++)
-            if (beside_cells(row, size) > most)
-                most = beside_cells(row, size);
+            most = larger(most, beside_cells(row, size));
+    return most;
+}
+
+/* In microseconds, of the rows of single packets. */
+static double slowest_receive(int size)
+{
+    static const int receive[] = {RELAYED, TIES, DIRECT, FIRST};
+    double most = 0;
+    for (size_t i = 0; i < sizeof receive / sizeof *receive; i++)
+        most = larger(most, took[receive[i]][size][0] / 1000);
     return most;
 }
 
@@ -523,7 +583,9 @@ static void print_all(void)
     printf("Single: as many single calls of the proved library. The median of %d slices, in which the versions take turns.\n\n", SLICES);
     print_aim("a packet of a burst of 32 at 64 originators beside a single call", 0.25, beside_singles(BURST_32, AT_64));
     print_aim("a packet of a burst of 32 at 256 originators beside a single call", 0.10, beside_singles(BURST_32, AT_256));
-    print_aim("a packet of any burst beside (a)", 1.10, slowest_burst());
+    print_aim("a packet of any burst beside (a)", 1.10, slowest_from(BURST_8));
+    print_aim("any call beside (a)", 1.10, slowest_from(0));
+    print_aim("receive at 64 originators, in microseconds", 2, slowest_receive(AT_64));
 }
 
 int main(void)

@@ -33,6 +33,7 @@ struct version {
                                         uint16_t port, const uint8_t *hna, size_t hna_length, uint8_t *output, size_t room);
     struct batman_swept (*sweep)(void *table, size_t count, uint64_t time);
     struct batman_asked (*best)(const void *table, size_t count, uint32_t originator);
+    struct batman_located (*lookup)(const void *table, size_t count, uint32_t address);
     uint64_t (*packet_check)(const uint8_t *packet, size_t length, uint64_t version);
 };
 

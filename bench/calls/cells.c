@@ -7,8 +7,11 @@
 #include "wire.h"
 
 enum { OWN, BROADCAST, FIRST, SENT, LAST, INTERFACE };                            /* of an interface row, and its cells */
-enum { LINK = 2, LINK_MOST = BATMAN_LINKS_MOST, NEIGHBOUR = 2, NEIGHBOUR_MOST = BATMAN_NEIGHBOURS_MOST };
-enum { ADDRESS, CURRENT, SEEN, LAST_TTL, LINKS, BEST, LINKS_FROM, RECORD = LINKS_FROM + LINK * LINK_MOST }; /* of a record, and its cells */
+enum { LINK = 2, LINK_MOST = BATMAN_LINKS_MOST, NEIGHBOUR = 2, NEIGHBOUR_MOST = BATMAN_NEIGHBOURS_MOST, ENTRY_MOST = BATMAN_ENTRIES_MOST };
+enum { /* of a record, and its cells */
+    ADDRESS, CURRENT, SEEN, LAST_TTL, LINKS, BEST, ENTRIES, LINKS_FROM, ENTRIES_FROM = LINKS_FROM + LINK * LINK_MOST, RECORD = ENTRIES_FROM + ENTRY_MOST
+};
+enum { MASK_BITS = 8, ENTRY_BITS = 40 }; /* an entry is one cell: the network, and the mask in its lowest octet */
 enum {
     VERSION_AT, WINDOW_AT, TIMEOUT_AT, PURGE_AT, CAPACITY_AT, TIE_AT, USED_AT, TIME_AT, ROWS_AT, RECORDS_AT, INTERFACES_AT,
     NEIGHBOURS_AT = INTERFACES_AT + INTERFACE * BATMAN_INTERFACES, ALL_RECORDS_AT = NEIGHBOURS_AT + NEIGHBOUR * NEIGHBOUR_MOST
@@ -85,7 +88,21 @@ static inline bool links_ok(const uint64_t *r, const struct limits *l)
         held |= key == best;
         low = key + 1;
     }
-    return held && zeros(link + LINK * n, r + RECORD);
+    return held && zeros(link + LINK * n, r + ENTRIES_FROM);
+}
+
+static inline uint32_t network_of(uint64_t entry) { return (uint32_t)(entry >> MASK_BITS); }
+static inline uint32_t mask_of(uint64_t entry) { return entry & UINT8_MAX; }
+
+static inline bool entries_ok(const uint64_t *r)
+{
+    const uint64_t *entry = r + ENTRIES_FROM;
+    uint64_t n = r[ENTRIES], all = 0, masks = 0;
+    for (uint64_t i = 0; i < n; i++) {
+        all |= entry[i];
+        masks |= mask_of(entry[i]) + (UINT8_MAX - MASK_MOST); /* above an octet where a mask is too long */
+    }
+    return all >> ENTRY_BITS == 0 && masks <= UINT8_MAX && zeros(entry + n, r + RECORD);
 }
 
 static inline bool record_ok(const uint64_t *r, uint64_t low, const struct limits *l)
@@ -93,9 +110,9 @@ static inline bool record_ok(const uint64_t *r, uint64_t low, const struct limit
     uint64_t a = r[ADDRESS];
     if (a < low || a >> 32 || a == l->own[0] || a == l->own[1] || a == l->own[2] || a == l->own[3])
         return false;
-    if (r[CURRENT] >> 16 || r[SEEN] > l->time || r[LAST_TTL] >> 8 || r[LINKS] - 1 >= LINK_MOST)
+    if (r[CURRENT] >> 16 || r[SEEN] > l->time || r[LAST_TTL] >> 8 || r[LINKS] - 1 >= LINK_MOST || r[ENTRIES] > ENTRY_MOST)
         return false;
-    return links_ok(r, l);
+    return links_ok(r, l) && entries_ok(r);
 }
 
 static bool well_formed(const uint64_t *c, size_t count)
@@ -178,6 +195,8 @@ struct arrival {
     uint32_t originator;
     uint16_t sequence;
     uint8_t ttl;
+    const uint8_t *hna; /* its HNA entries, and how many */
+    size_t entries;
 };
 
 static inline bool is_duplicate(const uint64_t *r, uint64_t window, uint64_t key, uint16_t number)
@@ -239,16 +258,31 @@ static inline uint64_t chosen(const struct links *l, uint64_t tie, uint64_t key,
     return key;
 }
 
-static bool count_message(uint64_t *r, uint64_t window, uint64_t tie, const struct arrival *m)
+/* The message's entries in place of those held, and zeros behind them where there were more. */
+static inline void replace_entries(uint64_t *r, const struct arrival *m)
 {
-    uint64_t next = (uint16_t)(r[CURRENT] - m->sequence) < window ? r[CURRENT] : m->sequence;
+    uint64_t *entry = r + ENTRIES_FROM, was = r[ENTRIES];
+    for (size_t i = 0; i < m->entries; i++)
+        entry[i] = (uint64_t)read4(m->hna + ENTRY * i) << MASK_BITS | m->hna[ENTRY * i + MASK_AT];
+    if (m->entries < was)
+        memset(entry + m->entries, 0, (was - m->entries) * sizeof *entry);
+    r[ENTRIES] = m->entries;
+}
+
+/* Counts, and answers 0; or a refusal, with nothing changed. */
+static uint64_t count_message(uint64_t *r, uint64_t window, uint64_t tie, const struct arrival *m)
+{
+    bool is_new = (uint16_t)(r[CURRENT] - m->sequence) >= window;
+    uint64_t next = is_new ? m->sequence : r[CURRENT];
     struct links all = moved(r, window, (uint16_t)(next - r[CURRENT]), (uint16_t)(next - m->sequence), m->key), kept = {.n = 0};
     uint64_t best = chosen(&all, tie, m->key, r[BEST]);
     for (size_t i = 0; i < all.n; i++)
         if (all.cell[LINK * i + 1] != 0 || all.cell[LINK * i] == best)
             add(&kept, all.cell[LINK * i], all.cell[LINK * i + 1]);
     if (kept.n > LINK_MOST)
-        return false;
+        return 11;
+    if (is_new && m->entries > ENTRY_MOST)
+        return 15;
     uint64_t was = r[LINKS];
     r[CURRENT] = next;
     r[SEEN] = m->time;
@@ -258,11 +292,18 @@ static bool count_message(uint64_t *r, uint64_t window, uint64_t tie, const stru
     memcpy(r + LINKS_FROM, kept.cell, kept.n * LINK * sizeof *r);
     if (kept.n < was)
         memset(r + LINKS_FROM + kept.n * LINK, 0, (was - kept.n) * LINK * sizeof *r);
-    return true;
+    if (is_new)
+        replace_entries(r, m);
+    return 0;
 }
 
-static void make_record(uint64_t *c, size_t at, const struct arrival *m)
+/* The same for the originator's first message, whose record is made at this place. */
+static uint64_t make_record(uint64_t *c, size_t at, const struct arrival *m)
 {
+    if (c[RECORDS_AT] == c[CAPACITY_AT])
+        return 10;
+    if (m->entries > ENTRY_MOST)
+        return 15;
     uint64_t *records = c + ALL_RECORDS_AT, *r = records + at * RECORD;
     put_in(records, RECORD, (size_t)c[RECORDS_AT], at);
     memset(r, 0, RECORD * sizeof *r);
@@ -273,7 +314,9 @@ static void make_record(uint64_t *c, size_t at, const struct arrival *m)
     r[LINKS] = 1;
     r[BEST] = r[LINKS_FROM] = m->key;
     r[LINKS_FROM + 1] = 1;
+    replace_entries(r, m);
     c[RECORDS_AT]++;
+    return 0;
 }
 
 /* The refusals that receive and own packet have in common, behind the check. */
@@ -331,12 +374,9 @@ static struct batman_received others_message(uint64_t *c, const uint8_t *packet,
     bool direct = m->key >> 2 == m->originator, duplicate = held && is_duplicate(records + at * RECORD, window, m->key, m->sequence);
     uint64_t *r = records + at * RECORD, last_ttl = held ? r[LAST_TTL] : 0;
     if (bidirectional && !duplicate) {
-        if (!held && n == c[CAPACITY_AT])
-            return refusal((struct fault){10, 0});
-        if (!held)
-            make_record(c, at, m);
-        else if (!count_message(r, window, c[TIE_AT], m))
-            return refusal((struct fault){11, 0});
+        uint64_t number = held ? count_message(r, window, c[TIE_AT], m) : make_record(c, at, m);
+        if (number != 0)
+            return refusal((struct fault){number, 0});
         held = true;
     }
     c[TIME_AT] = m->time;
@@ -359,7 +399,7 @@ static struct batman_received receive_checked(void *table, size_t count, const u
         f = packet_fault(packet, length, c[VERSION_AT]);
     if (f.number != 0)
         return refusal(f);
-    struct arrival m = {(uint64_t)sender << 2 | interface, time, read4(packet + 8), read2(packet + 4), packet[2]};
+    struct arrival m = {(uint64_t)sender << 2 | interface, time, read4(packet + 8), read2(packet + 4), packet[2], packet + HEADER, entries_in(length)};
     uint64_t verdict = listed(c, OWN, sender) ? 20 : listed(c, BROADCAST, sender) ? 21 : 0;
     if (verdict == 0 && listed(c, OWN, m.originator))
         return own_message(c, packet, &m);
@@ -464,4 +504,32 @@ static struct batman_asked best(const void *table, size_t count, uint32_t origin
     return (struct batman_asked){0, route_to(c, originator)};
 }
 
-const struct version VERSION = {"cells", true, size, make, receive, burst, own_packet, sweep, best, packet_check};
+/* What a lookup has found so far, and the least mask that is better: of equal masks the one met first stays, as originators rise. */
+struct search {
+    struct batman_located best;
+    uint32_t least;
+};
+
+static inline void search_record(const uint64_t *r, uint32_t address, struct search *s)
+{
+    const uint64_t *entry = r + ENTRIES_FROM;
+    uint64_t n = r[ENTRIES];
+    for (uint64_t i = 0; i < n; i++) {
+        uint32_t network = network_of(entry[i]), mask = mask_of(entry[i]);
+        if (mask >= s->least && covers(network, mask, address))
+            *s = (struct search){{0, 1, (uint32_t)r[ADDRESS], network, mask}, mask + 1};
+    }
+}
+
+static struct batman_located lookup(const void *table, size_t count, uint32_t address)
+{
+    const uint64_t *c = table;
+    if (!well_formed(c, count))
+        return (struct batman_located){1, 0, 0, 0, 0};
+    struct search s = {{0, 0, 0, 0, 0}, 0};
+    for (const uint64_t *r = c + ALL_RECORDS_AT, *end = r + RECORD * c[RECORDS_AT]; r < end; r += RECORD)
+        search_record(r, address, &s);
+    return s.best;
+}
+
+const struct version VERSION = {"cells", true, size, make, receive, burst, own_packet, sweep, best, lookup, packet_check};

@@ -9,8 +9,9 @@
 
 enum {
     VERSIONS = 8,
-    PACKET = 32,                     /* octets of a packet, at most */
-    LISTS = BATMAN_PACKETS_MOST + 4, /* packets of a burst that is too long, at most */
+    ENTRIES = BATMAN_ENTRIES_MOST + 2, /* of a packet, at most, and one that is cut short */
+    PACKET = BATMAN_HEADER_SIZE + BATMAN_ENTRY_SIZE * (ENTRIES + 1) - 1, /* octets of a packet, at most */
+    LISTS = BATMAN_PACKETS_MOST + 4,   /* packets of a burst that is too long, at most */
     OUTPUT = LISTS * PACKET,
     NUMBERS = 32,
     HISTORY = 500,
@@ -19,7 +20,7 @@ enum {
     BROADCAST = 0x0a09ffff
 };
 
-enum kind { MAKE, RECEIVE, BURST, OWN_PACKET, SWEEP, BEST, CHECK };
+enum kind { MAKE, RECEIVE, BURST, OWN_PACKET, SWEEP, BEST, LOOKUP, CHECK };
 
 /* A packet as it is heard; of an own packet, its HNA entries and its interface. */
 struct packet {
@@ -45,7 +46,7 @@ struct call {
     struct packet packet;
     struct packets packets;
     size_t room;
-    uint32_t originator;
+    uint32_t address; /* the originator, or what is looked up */
     uint64_t time, version;
     uint8_t ttl;
 };
@@ -60,6 +61,7 @@ struct answer {
 struct result {
     uint64_t number, place, first, second;
     struct batman_route route;
+    struct batman_located located;
     uint8_t output[OUTPUT];
     struct answer rows[LISTS];
 };
@@ -118,10 +120,14 @@ static struct result play(const struct version *v, void *table, size_t count, co
         break;
     }
     case BEST: {
-        struct batman_asked a = v->best(table, count, c->originator);
+        struct batman_asked a = v->best(table, count, c->address);
         r.number = a.number, r.route = a.route;
         break;
     }
+    case LOOKUP:
+        r.located = v->lookup(table, count, c->address);
+        r.number = r.located.number;
+        break;
     case CHECK: r.number = v->packet_check(p->octets, p->length, c->version); break;
     }
     return r;
@@ -147,12 +153,30 @@ static void draw_time(struct history *h, struct call *c)
     c->time = seldom(50) && h->time > 0 ? h->time - 1 : h->time;
 }
 
-/* Octets that are a packet, or HNA entries alone, with a fault now and then. */
+/* Mostly one of few networks, so that several entries cover an address; address 0 among them. */
+static uint32_t draw_network(void)
+{
+    static const uint32_t octets[] = {0, 1, 129};
+    uint32_t network = 0;
+    for (int i = 0; i < 4; i++)
+        network = network << 8 | octets[seldom(3) ? below(3) : 0];
+    return network;
+}
+
+static void draw_entry(uint8_t *entry)
+{
+    uint32_t network = draw_network();
+    for (int i = 3; i >= 0; i--, network >>= 8)
+        entry[i] = (uint8_t)network;
+    entry[4] = (uint8_t)(seldom(4) ? below(33) : 17 + below(16));
+}
+
+/* Octets that are a packet, or HNA entries alone, with a fault now and then: few entries, or about as many as are held. */
 static void draw_entries(struct packet *p, size_t from)
 {
-    p->length = from + 5 * below(4);
-    for (size_t i = from; i < p->length; i++)
-        p->octets[i] = (uint8_t)below(33);
+    p->length = from + 5 * (seldom(5) ? ENTRIES - below(4) : below(4));
+    for (size_t at = from; at < p->length; at += 5)
+        draw_entry(p->octets + at);
     if (seldom(25) && p->length > from)
         p->octets[p->length - 1 - 5 * below((p->length - from) / 5)] = 33;
     if (seldom(40))
@@ -259,7 +283,7 @@ static struct call draw(struct history *h)
     uint64_t kind = below(100);
     memset(&c, 0, sizeof c);
     draw_time(h, &c);
-    c.kind = kind < 66 ? RECEIVE : kind < 72 ? BURST : kind < 84 ? OWN_PACKET : kind < 88 ? SWEEP : kind < 95 ? BEST : CHECK;
+    c.kind = kind < 62 ? RECEIVE : kind < 68 ? BURST : kind < 80 ? OWN_PACKET : kind < 84 ? SWEEP : kind < 89 ? BEST : kind < 96 ? LOOKUP : CHECK;
     if (c.kind == RECEIVE || c.kind == CHECK)
         draw_receive(h, &c);
     else if (c.kind == BURST)
@@ -267,7 +291,9 @@ static struct call draw(struct history *h)
     else if (c.kind == OWN_PACKET)
         draw_own(h, &c);
     else if (c.kind == BEST)
-        c.originator = 1 + (uint32_t)below(9);
+        c.address = 1 + (uint32_t)below(9);
+    else if (c.kind == LOOKUP)
+        c.address = draw_network();
     return c;
 }
 
@@ -294,7 +320,7 @@ struct players {
     void *table[VERSIONS];
     uint64_t *spare[2];
     size_t count;
-    unsigned long calls, damaged, bursts;                     /* calls in all, those of them on a damaged table, and bursts */
+    unsigned long calls, damaged, bursts, lookups, found; /* calls in all, those of them on a damaged table, bursts, lookups, those that found something */
     unsigned long by_number[NUMBERS], in_bursts[NUMBERS]; /* the answers to calls, and those to the packets of bursts */
 };
 
@@ -308,6 +334,8 @@ static void note(struct players *p, const struct call *c, const struct result *r
 {
     p->calls++;
     p->by_number[r->number % NUMBERS]++;
+    p->lookups += c->kind == LOOKUP;
+    p->found += r->located.found;
     if (c->kind != BURST)
         return;
     p->bursts++;
@@ -333,7 +361,7 @@ static bool play_all(struct players *p, const struct call *c, struct result *fir
 /* Another value for a cell: an end of its range, a neighbour, an own address, anything, or one bit changed, mostly at the edge of a field. */
 static uint64_t damaged(uint64_t cell)
 {
-    static const uint64_t bits[] = {1, 2, 4, 0x100, 0x10000, (uint64_t)1 << 32, (uint64_t)1 << 34, (uint64_t)1 << 63};
+    static const uint64_t bits[] = {1, 2, 4, 0x20, 0x100, 0x10000, (uint64_t)1 << 32, (uint64_t)1 << 34, (uint64_t)1 << 40, (uint64_t)1 << 63};
     switch (below(10)) {
     case 0: return 0;
     case 1: return UINT64_MAX;
@@ -342,7 +370,7 @@ static uint64_t damaged(uint64_t cell)
     case 4: return OWN_FROM + below(4);
     case 5: return random_next(&state);
     case 6: return cell ^ (uint64_t)1 << below(64);
-    default: return cell ^ bits[below(8)];
+    default: return cell ^ bits[below(sizeof bits / sizeof *bits)];
     }
 }
 
@@ -430,8 +458,9 @@ static bool came(const unsigned long *answers, int from, int to, const char *to_
 
 static bool every_number_came(const struct players *p)
 {
-    return came(p->by_number, 0, BATMAN_WRONG_BURST, "call") && came(p->by_number, BATMAN_OWN_SENDER, BATMAN_PASSED_ON, "call") &&
+    return came(p->by_number, 0, BATMAN_ENTRIES_FULL, "call") && came(p->by_number, BATMAN_OWN_SENDER, BATMAN_PASSED_ON, "call") &&
            came(p->in_bursts, BATMAN_NOT_IN_USE, BATMAN_LINKS_FULL, "packet of a burst") &&
+           came(p->in_bursts, BATMAN_ENTRIES_FULL, BATMAN_ENTRIES_FULL, "packet of a burst") &&
            came(p->in_bursts, BATMAN_OWN_SENDER, BATMAN_PASSED_ON, "packet of a burst");
 }
 
@@ -448,9 +477,9 @@ bool compare(const struct version *const *versions, int n, unsigned long calls)
         same = play_history(&p);
     same = same && every_number_came(&p);
     if (same)
-        printf("%lu calls on %d versions, %lu of them bursts and %lu on damaged tables: the same answers, outputs and cells; every refusal and "
-               "verdict came up\n",
-               p.calls, n, p.bursts, p.damaged);
+        printf("%lu calls on %d versions, %lu of them bursts, %lu lookups (%lu found an entry) and %lu on damaged tables: the same answers, outputs and cells; "
+               "every refusal and verdict came up\n",
+               p.calls, n, p.bursts, p.lookups, p.found, p.damaged);
     for (int i = 0; i < n; i++)
         free(p.table[i]);
     free(p.spare[0]);

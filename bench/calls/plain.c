@@ -6,19 +6,25 @@
 #include "calls.h"
 #include "wire.h"
 
-enum { LINK_MOST = 8, NEIGHBOUR_MOST = 32, ORIGINATOR_MOST = 256, SLOTS = 1024, NOBODY = -1 };
+enum { LINK_MOST = 8, NEIGHBOUR_MOST = 32, ORIGINATOR_MOST = 256, NETWORK_MOST = 16, SLOTS = 1024, NOBODY = -1 };
 
 struct link {
     uint32_t neighbour, interface;
     uint64_t marks;
 };
 
+/* An HNA entry. */
+struct network {
+    uint32_t address, mask;
+};
+
 struct originator {
     uint32_t address;
     uint16_t current;
-    uint8_t last_ttl, links, best;
+    uint8_t last_ttl, links, best, networks;
     uint64_t seen;
     struct link link[LINK_MOST + 1]; /* the ninth is there only while a message is counted */
+    struct network network[NETWORK_MOST];
 };
 
 struct neighbour {
@@ -104,6 +110,8 @@ struct message {
     uint16_t sequence;
     uint8_t flags, ttl;
     uint64_t time;
+    const uint8_t *hna;
+    size_t networks;
 };
 
 static inline void move_window(struct originator *o, uint64_t window, uint16_t number)
@@ -139,9 +147,19 @@ static inline void drop_empty(struct originator *o)
     o->best = (uint8_t)best;
 }
 
+static inline void take_networks(struct originator *o, const struct message *m)
+{
+    const uint8_t *hna = m->hna;
+    for (size_t i = 0; i < m->networks; i++, hna += ENTRY)
+        o->network[i] = (struct network){read4(hna), hna[MASK_AT]};
+    o->networks = (uint8_t)m->networks;
+}
+
+static inline bool is_new(const struct originator *o, uint64_t window, const struct message *m) { return (uint16_t)(o->current - m->sequence) >= window; }
+
 static inline void count_on(struct originator *o, const struct batman_settings *s, const struct message *m)
 {
-    bool moves = (uint16_t)(o->current - m->sequence) >= s->window;
+    bool moves = is_new(o, s->window, m);
     unsigned was = o->best;
     if (moves)
         move_window(o, s->window, m->sequence);
@@ -159,28 +177,44 @@ static inline void count_on(struct originator *o, const struct batman_settings *
     o->last_ttl = m->ttl;
 }
 
-/* A ninth link may take the place of one that is dropped, which only a trial tells. */
-static bool count_message(struct originator *o, const struct batman_settings *s, const struct message *m)
+/* A ninth link may take the place of one that is dropped, which only a trial tells. Else the message is refused by 11, or by what comes behind that. */
+static uint64_t count_ninth(struct originator *o, const struct batman_settings *s, const struct message *m, uint64_t behind)
 {
-    if (o->links < LINK_MOST || link_of(o, m->sender, m->interface) != NULL) {
-        count_on(o, s, m);
-        return true;
-    }
     struct originator trial = *o;
     count_on(&trial, s, m);
     if (trial.links > LINK_MOST)
-        return false;
-    *o = trial;
-    return true;
+        return 11;
+    if (behind == 0)
+        *o = trial;
+    return behind;
 }
 
-static struct originator *first_message(struct plain *p, const struct message *m)
+/* Counts, and answers 0; or a refusal, with nothing changed. */
+static uint64_t count_message(struct originator *o, const struct batman_settings *s, const struct message *m)
+{
+    bool replaces = is_new(o, s->window, m);
+    uint64_t number = replaces && m->networks > NETWORK_MOST ? 15 : 0;
+    if (o->links == LINK_MOST && link_of(o, m->sender, m->interface) == NULL)
+        number = count_ninth(o, s, m, number);
+    else if (number == 0)
+        count_on(o, s, m);
+    if (number == 0 && replaces)
+        take_networks(o, m);
+    return number;
+}
+
+static uint64_t first_message(struct plain *p, const struct message *m)
 {
     struct originator *o = &p->originator[p->originators];
+    if (p->originators == p->settings.capacity)
+        return 10;
+    if (m->networks > NETWORK_MOST)
+        return 15;
     *o = (struct originator){.address = m->originator, .current = m->sequence, .last_ttl = m->ttl, .links = 1, .seen = m->time};
     o->link[0] = (struct link){m->sender, m->interface, 1};
+    take_networks(o, m);
     enter(p, p->originators++);
-    return o;
+    return 0;
 }
 
 /* ---- receive */
@@ -237,12 +271,11 @@ static struct batman_received others_message(struct plain *p, const struct messa
     bool bidirectional = neighbour_of(p, m->sender, m->interface) != NULL, direct = m->sender == m->originator;
     bool duplicate = o != NULL && is_duplicate(o, p->settings.window, m), fresh = !duplicate || m->ttl == o->last_ttl;
     if (bidirectional && !duplicate) {
-        if (o == NULL && p->originators == p->settings.capacity)
-            return refusal((struct fault){10, 0});
+        uint64_t number = o != NULL ? count_message(o, &p->settings, m) : first_message(p, m);
+        if (number != 0)
+            return refusal((struct fault){number, 0});
         if (o == NULL)
-            o = first_message(p, m);
-        else if (!count_message(o, &p->settings, m))
-            return refusal((struct fault){11, 0});
+            o = &p->originator[p->originators - 1];
     }
     p->time = m->time;
     struct batman_route route = route_by(p, o);
@@ -270,7 +303,7 @@ static struct batman_received receive(void *table, size_t count, const uint8_t *
         f = packet_fault(packet, length, p->settings.version);
     if (f.number != 0)
         return refusal(f);
-    struct message m = {sender, (uint32_t)interface, read4(packet + 8), read2(packet + 4), packet[1], packet[2], time};
+    struct message m = {sender, (uint32_t)interface, read4(packet + 8), read2(packet + 4), packet[1], packet[2], time, packet + HEADER, entries_in(length)};
     if (own_by(p, sender) != NULL)
         return verdict(p, 20, &m);
     if (is_broadcast(p, sender))
@@ -379,4 +412,33 @@ static struct batman_asked best(const void *table, size_t count, uint32_t origin
     return (struct batman_asked){0, route_by(p, find((struct plain *)p, originator))};
 }
 
-const struct version VERSION = {"plain", false, size, make, receive, burst, own_packet, sweep, best, packet_check};
+/* The best covering network of one originator, by a longer mask, then the earlier; NULL where none covers the address. */
+static inline const struct network *longest(const struct originator *o, uint32_t address)
+{
+    const struct network *best = NULL;
+    for (const struct network *n = o->network; n < o->network + o->networks; n++)
+        if ((best == NULL || n->mask > best->mask) && covers(n->address, n->mask, address))
+            best = n;
+    return best;
+}
+
+/* Originators stand as they came, so of equal masks the smaller address has to be asked for. */
+static inline bool is_better(const struct originator *o, const struct network *n, const struct batman_located *best)
+{
+    return !best->found || n->mask > best->mask || (n->mask == best->mask && o->address < best->originator);
+}
+
+static struct batman_located lookup(const void *table, size_t count, uint32_t address)
+{
+    const struct plain *p = table;
+    struct batman_located best = {0, 0, 0, 0, 0};
+    (void)count;
+    for (const struct originator *o = p->originator; o < p->originator + p->originators; o++) {
+        const struct network *n = longest(o, address);
+        if (n != NULL && is_better(o, n, &best))
+            best = (struct batman_located){0, 1, o->address, n->address, n->mask};
+    }
+    return best;
+}
+
+const struct version VERSION = {"plain", false, size, make, receive, burst, own_packet, sweep, best, lookup, packet_check};

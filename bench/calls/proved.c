@@ -30,4 +30,6 @@ static struct batman_swept sweep(void *table, size_t count, uint64_t time) { ret
 
 static struct batman_asked best(const void *table, size_t count, uint32_t originator) { return batman_best(table, count, originator); }
 
-const struct version proved = {"proved", true, size, make, receive, burst, own_packet, sweep, best, batman_packet_check};
+static struct batman_located lookup(const void *table, size_t count, uint32_t address) { return batman_lookup(table, count, address); }
+
+const struct version proved = {"proved", true, size, make, receive, burst, own_packet, sweep, best, lookup, batman_packet_check};

@@ -53,6 +53,12 @@ static inline struct fault written_fault(const uint8_t *hna, size_t length, uint
 static inline uint16_t read2(const uint8_t *p) { return (uint16_t)(p[0] << 8 | p[1]); }
 static inline uint32_t read4(const uint8_t *p) { return (uint32_t)p[0] << 24 | (uint32_t)p[1] << 16 | (uint32_t)p[2] << 8 | p[3]; }
 
+/* How many HNA entries a packet of this length has. */
+static inline size_t entries_in(size_t length) { return (length - HEADER) / ENTRY; }
+
+/* Whether network and address agree in as many leading bits as the mask says. */
+static inline bool covers(uint32_t network, uint32_t mask, uint32_t address) { return (uint64_t)(network ^ address) >> (32 - mask) == 0; }
+
 static inline void write2(uint8_t *p, uint16_t n)
 {
     p[0] = (uint8_t)(n >> 8);
