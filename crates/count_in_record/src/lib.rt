@@ -93,7 +93,7 @@ fn store(row: &mut [u64], current: u16, m: Ogm, left: Left, links: &[u64])
     fill(&mut row[FIELDS..LINKS_END], links);
 }
 
-// And, where they replace those that are kept, the message's entries.
+// Writes the same, and the message's entries where they replace those that are kept.
 fn store_message(
     row: &mut [u64],
     current: u16,
