@@ -25,7 +25,7 @@ use Rattle.table_layout.specs.Cells.{encode, decode}
 use Rattle.count_in_record.specs.declared.Answer.{Answer}
 use Rattle.count_in_record.specs.declared.Heard.{Heard}
 use Rattle.count_in_record.specs.declared.Heard.the-variants as H
-use Rattle.count_in_record.specs.Counting.{faultOf, isRepeated, isFreshIn, isCounted, isTaken, Answers}
+use Rattle.count_in_record.specs.Counting.{countedFault, isRepeated, isFreshIn, isCounted, isTaken, Answers}
 use Rattle.table_changes.specs.Changes.{withRecords}
 use Rattle.table_originators.specs.Originators.{Stands, Missing, standingAt, HeardAt, Made}
 use Rattle.table_originators.proofs.Changed.{records-count}
@@ -136,7 +136,7 @@ module _ {c p o : List ℕ} {m : Arrival} {b : Bool} (w : Decides c p o m b) whe
     pub again-full : {v : Fault} → g ≡ H.Refused v → after c p o m ≡ refuse table (receive a) s v
     again-full e =
         let l = answers e in
-        by-standing ∙ way-full s a (header p) x b (sym counted-is ∙ l .0) (ap (λ (n : Message). faultOf (s .config) (next n)) (sym (message-is f)) ∙ l .1)
+        by-standing ∙ way-full s a (header p) x b (sym counted-is ∙ l .0) (ap (λ (n : Message). countedFault (s .config) (next n)) (sym (message-is f)) ∙ l .1)
 
     pub again-same : {v : Fault} → g ≡ H.Refused v → d ≡ c
     again-same e = let l = answers e in left (λ j. l .0 j && maybe (l .1 j) true (λ v. false))
@@ -146,12 +146,12 @@ module _ {c p o : List ℕ} {m : Arrival} {b : Bool} (w : Decides c p o m b) whe
     again-counted {v} eg k =
         let l = answers eg in
         let y = next (message a (header p)) in
-        let taken = maybe (faultOf (s .config) (next said)) true (λ v. false) in
+        let taken = maybe (countedFault (s .config) (next said)) true (λ v. false) in
         let counted = and-left (isCounted (s .config) said b x) taken (l .0) in
-        let room = not-refused (faultOf (s .config) (next said)) (and-right (isCounted (s .config) said b x) taken (l .0)) in
+        let room = not-refused (countedFault (s .config) (next said)) (and-right (isCounted (s .config) said b x) taken (l .0)) in
         let by : b ≡ true = and-left b (not (isRepeated (s .config) said x)) counted in
         concludes-left f (holding s (header p) y) true fresh (some y)
-        (by-standing ∙ way-next s a (header p) x b (sym counted-is ∙ counted) (ap (λ (n : Message). faultOf (s .config) (next n)) (sym (message-is f)) ∙ room)
+        (by-standing ∙ way-next s a (header p) x b (sym counted-is ∙ counted) (ap (λ (n : Message). countedFault (s .config) (next n)) (sym (message-is f)) ∙ room)
         ∙ ap (λ (t : Bool). concludes (holding s (header p) y) a (header p) t fresh (some y)) by)
         (held next (left (l .0))) (λ j. best-by next (l .1 .best) j && (l .1 .fresh ∙ fresh-is) j) (route-by next (l .1 .route)) k
 
@@ -159,5 +159,5 @@ module _ {c p o : List ℕ} {m : Arrival} {b : Bool} (w : Decides c p o m b) whe
     unfolding fresh
     again-kept {v} eg k =
         let l = answers eg in
-        concludes-left f s b fresh (some x) (by-standing ∙ way-kept s a (header p) b (some x) (sym counted-is ∙ l .0)) (left (λ j. l .0 j && maybe (faultOf (s .config) (next said)) true (λ v. false)) ∙ same)
+        concludes-left f s b fresh (some x) (by-standing ∙ way-kept s a (header p) b (some x) (sym counted-is ∙ l .0)) (left (λ j. l .0 j && maybe (countedFault (s .config) (next said)) true (λ v. false)) ∙ same)
         (λ j. b && (best-by (λ n. x) (l .1 .best) j && (l .1 .fresh ∙ fresh-is) j)) (l .1 .route) k

@@ -4,10 +4,9 @@ use call_receive_arrival::Arrival;
 use call_receive_arrival::conclude;
 use call_receive_arrival::refused;
 use cells::Found;
+use count_entries::too_many;
 use count_in_record::Heard;
-use packet_codec::entries::entry_count;
 use rules::Received;
-use rules::limits::ENTRIES_MOST;
 use table_layout::CAPACITY;
 use table_layout::NEIGHBOURS_FROM;
 use table_layout::RECORDS;
@@ -56,7 +55,7 @@ fn first_heard(
         return refused(refusal(ORIGINATORS_FULL));
     }
     let hna = hna_of(packet);
-    if ENTRIES_MOST < entry_count(hna) as u64 {
+    if too_many(hna) {
         return refused(refusal(ENTRIES_FULL));
     }
     let ogm = m.ogm;

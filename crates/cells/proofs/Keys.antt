@@ -13,26 +13,28 @@ use lib.Seq.{drop-cons, getD-drop, getD-take, drop-drop, drop-length}
 use borrow.Author.Tests.{le-leb, leb-true, ne-eqb}
 use Rattle.lists.specs.Lists.{all}
 use Rattle.lists.specs.Keyed.{rising}
-use Rattle.cells.specs.Area.{allZero, keyOf, rowsOf, column, riseFrom, rise, scan}
+use Rattle.cells.specs.Area.{keyOf, rowsOf, column, riseFrom, rise, scan}
 use Rattle.cells.proofs.Trips.{length-decoded}
 
 -- ---- zeros
 
 -- two words have no bit together exactly if neither has one
-pub no-bit : (a b : ℕ) → eqb (bitOr a b) 0 ≡ (eqb a 0 && eqb b 0)
+no-bit : (a b : ℕ) → eqb (bitOr a b) 0 ≡ (eqb a 0 && eqb b 0)
 no-bit zero b = rw (or-zero-l b)
 no-bit (suc a) b =
     ne-eqb (bitOr (suc a) b) 0 (omega (arith, or-add-and (suc a) b, and-le-r (suc a) b)) ∙ sym (ap (λ (t : Bool). t && eqb b 0) (ne-eqb (suc a) 0 (omega arith)))
 
--- the bits v of the cells before place i, joined with those of the cell there
-pub zero-next : (c : List ℕ) (i : ℕ) → i < length c → (v : ℕ) → (eqb v 0 && allZero (drop i c)) ≡ (eqb (bitOr v (getD c i 0)) 0 && allZero (drop (i + 1) c))
-zero-next c i h v =
-    ap (λ (l : List ℕ). eqb v 0 && allZero l) (drop-cons c i 0 h ∙ ap (λ (n : ℕ). getD c i 0 ∷ drop n c) (sym (add-one i)))
-    ∙ sym (and-assoc (eqb v 0) (eqb (getD c i 0) 0) (allZero (drop (i + 1) c)))
-    ∙ ap (λ (b : Bool). b && allZero (drop (i + 1) c)) (sym (no-bit v (getD c i 0)))
+-- a test of every cell by joined bits: v are those of the cells before place i, f those of the cell there, 0 exactly where it passes
+module _ (p : ℕ → Bool) (c : List ℕ) (i : ℕ) where
+  pub joined-next : i < length c → (v f : ℕ) → eqb f 0 ≡ p (getD c i 0) → (eqb v 0 && all p (drop i c)) ≡ (eqb (bitOr v f) 0 && all p (drop (i + 1) c))
+  joined-next h v f e =
+      ap (λ (l : List ℕ). eqb v 0 && all p l) (drop-cons c i 0 h ∙ ap (λ (n : ℕ). getD c i 0 ∷ drop n c) (sym (add-one i)))
+      ∙ ap (λ (b : Bool). eqb v 0 && (b && all p (drop (i + 1) c))) (sym e)
+      ∙ sym (and-assoc (eqb v 0) (eqb f 0) (all p (drop (i + 1) c)))
+      ∙ ap (λ (b : Bool). b && all p (drop (i + 1) c)) (sym (no-bit v f))
 
-pub zero-end : (c : List ℕ) (i : ℕ) → i ≡ length c → allZero (drop i c) ≡ true
-zero-end c i e = ap (λ (k : ℕ). allZero (drop k c)) e ∙ rw (drop-length c)
+  pub joined-end : i ≡ length c → all p (drop i c) ≡ true
+  joined-end e = ap (λ (k : ℕ). all p (drop k c)) e ∙ ap (all p) (drop-length c)
 
 -- ---- rows and their keys
 

@@ -1,17 +1,26 @@
-// A message's entries on their way to its originator's record: how many they are, and how they are written to the record's row.
+// A message's entries on their way to its originator's record: whether they are too many, and how they are written to the record's row.
 use cells_moves::clear;
 use packet_codec::entries::entry_at;
 use packet_codec::entries::entry_count;
+use rules::limits::ENTRIES_MOST;
 use table_record::ENTRIES;
 use table_record::LINKS_END;
 ghost use mathlib.Core.Path.{_≡_};
 ghost use Prim.Native.Nat.{_≤_};
+ghost use lib.Dec.{ltb};
 ghost use lib.ListN.{length};
 ghost use Rattle.cells.specs.Area.{fit, written};
 ghost use Rattle.wire.specs.Check.{entries};
 ghost use Rattle.wire.specs.Entries.{entriesOf};
 ghost use Rattle.rules.specs.Settings.{entryMost, recordCells};
 ghost use Rattle.count_entries.specs.Entries.{keptIn};
+
+// Whether a record may not keep so many entries.
+pub fn too_many(hna: &[u8]) -> bool
+    ensures { λ r. ⌜ r ≡ ltb entryMost (entries (now (hna .entry))) ⌝ }
+{
+    ENTRIES_MOST < entry_count(hna) as u64
+}
 
 // Writes the entries over the first cells, n of them.
 fn write_entries(part: &mut [u64], hna: &[u8], n: usize)

@@ -20,7 +20,7 @@ use Rattle.count_in_record.specs.declared.Answer.{Answer}
 use Rattle.count_in_record.specs.declared.Counting.the-variants.{Done, Refused}
 use Rattle.count_in_record.specs.declared.Heard.the-variants as H
 use Rattle.count_in_record.proofs.Rows.{no-fault}
-use Rattle.count_in_record.specs.Counting.{faultOf, CountedIn, isRepeated, isFreshIn, isCounted, Answered, HeardIn}
+use Rattle.count_in_record.specs.Counting.{countedFault, CountedIn, isRepeated, isFreshIn, isCounted, Answered, HeardIn}
 
 module _ (κ : Config) (m : Message) (b : Bool) (row : List ℕ) {duplicate : Bool} (ed : duplicate ≡ isRepeated κ m (decodeRecord row .1)) where
   abbrev x : TableRecord
@@ -40,7 +40,7 @@ module _ (κ : Config) (m : Message) (b : Bool) (row : List ℕ) {duplicate : Bo
   pub heard-kept : {a : Answer} → (b && not duplicate) ≡ false → Answered κ (m .link) x (not duplicate || eqb (m .ttl) (getD row lastTtlAt 0)) a → HeardIn κ m b row row (H.Uncounted a)
   unfolding decodeRecord
   heard-kept {a} t w =
-      record { answers = (counted-is t, subst (λ (d : Bool). Answered κ (m .link) x (not d || eqb (m .ttl) (x .lastTtl)) a) ed w); cells = sym (ap (λ (c : Bool). row-if (c && maybe (faultOf κ next) true (λ f. false))) (counted-is t)) }
+      record { answers = (counted-is t, subst (λ (d : Bool). Answered κ (m .link) x (not d || eqb (m .ttl) (x .lastTtl)) a) ed w); cells = sym (ap (λ (c : Bool). row-if (c && maybe (countedFault κ next) true (λ f. false))) (counted-is t)) }
 
   -- counted
   module _ {after : List ℕ} (v : Marks) (w : CountedIn κ m row after (Done v)) where

@@ -26,7 +26,7 @@ use Rattle.table_record.proofs.Rows.{small-pair, length-record, record-back, un
 use Rattle.table_record.proofs.Routes.{route-is}
 use Rattle.count_links.specs.Links.{stays}
 use Rattle.count_in_record.specs.declared.Counting.the-variants.{Done}
-use Rattle.count_in_record.specs.Counting.{faultOf, CountedIn}
+use Rattle.count_in_record.specs.Counting.{countedFault, CountedIn}
 use Rattle.count_in_record.proofs.Rows.{no-fault, first, first-is}
 
 -- settings that a policy follows
@@ -70,7 +70,7 @@ pub link-small : (l : ℕ) → isAddress (neighbourOf l) ≡ true → l < pairs
 link-small l link = ltb-true l pairs (small-pair l ∙ link)
 
 module _ (κ : Config) (m : Message) (ttl : m .ttl < octets) (link : isAddress (neighbourOf (m .link)) ≡ true) where
-  next-held : (row : List ℕ) (a : ℕ) → Held row → faultOf κ (nextRecord κ m (decodeRecord row .1)) ≡ none → Held (encodeRecord (a, nextRecord κ m (decodeRecord row .1)))
+  next-held : (row : List ℕ) (a : ℕ) → Held row → countedFault κ (nextRecord κ m (decodeRecord row .1)) ≡ none → Held (encodeRecord (a, nextRecord κ m (decodeRecord row .1)))
   unfolding nextRecord decodeRecord
   next-held row a h none-given =
       let few = no-fault κ (nextRecord κ m (decodeRecord row .1)) none-given in

@@ -42,7 +42,7 @@ use Rattle.count_links.specs.Links.{stays, scratchCells, Built, Recounted}
 use Rattle.count_links.proofs.Cells.{cellsOf}
 use Rattle.count_links.proofs.Places.{mark-has}
 use Rattle.count_in_record.specs.declared.Counting.the-variants.{Done, Refused}
-use Rattle.count_in_record.specs.Counting.{faultOf, CountedIn}
+use Rattle.count_in_record.specs.Counting.{countedFault, CountedIn}
 
 -- five fields set, and the cells of the links lent
 module _ (row : List ℕ) (a b c d e : ℕ) (h : length row ≡ recordCells) where
@@ -92,17 +92,17 @@ module _ {out : List ℕ} {m : ℕ} {goal : Links} (b : Built out m [] goal) whe
 -- ---- what is refused of a record
 
 module _ (κ : Config) (y : TableRecord) where
-  pub fault-11 : linkMost < length (y .links) → faultOf κ y ≡ some (numbered 11)
+  pub fault-11 : linkMost < length (y .links) → countedFault κ y ≡ some (numbered 11)
   fault-11 h = rw (length-mapValues count (y .links), lt-ltb linkMost (length (y .links)) h)
 
-  pub fault-15 : length (y .links) ≤ linkMost → entryMost < length (y .entries) → faultOf κ y ≡ some (numbered 15)
+  pub fault-15 : length (y .links) ≤ linkMost → entryMost < length (y .entries) → countedFault κ y ≡ some (numbered 15)
   fault-15 h k = rw (length-mapValues count (y .links), le-ltb linkMost (length (y .links)) h, lt-ltb entryMost (length (y .entries)) k)
 
-  pub fault-none : length (y .links) ≤ linkMost → length (y .entries) ≤ entryMost → faultOf κ y ≡ none
+  pub fault-none : length (y .links) ≤ linkMost → length (y .entries) ≤ entryMost → countedFault κ y ≡ none
   fault-none h k = rw (length-mapValues count (y .links), le-ltb linkMost (length (y .links)) h, le-ltb entryMost (length (y .entries)) k)
 
   -- and where nothing is
-  pub no-fault : faultOf κ y ≡ none → (length (y .links) ≤ linkMost) × (length (y .entries) ≤ entryMost)
+  pub no-fault : countedFault κ y ≡ none → (length (y .links) ≤ linkMost) × (length (y .entries) ≤ entryMost)
   no-fault h =
       let at = none-at (countedFaults table κ y) h in (
         omega (arith, ltb-false linkMost (length (mapValues count (y .links))) (not-given (ltb linkMost (length (mapValues count (y .links)))) 11 (at 0)), length-mapValues count (y .links)),

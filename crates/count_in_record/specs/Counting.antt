@@ -24,16 +24,16 @@ use Rattle.count_in_record.specs.declared.Heard.the-variants as H
 -- ---- counting
 
 -- what is refused of a record after counting: 11 or 15, if anything
-abbrev pub faultOf : Config → TableRecord → Option Fault
-faultOf κ y = firstOf (countedFaults table κ y)
+abbrev pub countedFault : Config → TableRecord → Option Fault
+countedFault κ y = firstOf (countedFaults table κ y)
 
 -- the message is counted and the row is that of the next record, in which its link has these marks; or, exactly where that record is refused, nothing changes
 abbrev pub CountedIn : Config → Message → (before after : List ℕ) → Counting → Type 0
 CountedIn κ m before after (Done marks) =
-    (faultOf κ (nextRecord κ m (decodeRecord before .1)) ≡ none)
+    (countedFault κ (nextRecord κ m (decodeRecord before .1)) ≡ none)
     × (after ≡ encodeRecord (decodeRecord before .0, nextRecord κ m (decodeRecord before .1)))
     × (wordOf marks ≡ marksAt (nextRecord κ m (decodeRecord before .1) .links) (m .link))
-CountedIn κ m before after (Refused f) = (faultOf κ (nextRecord κ m (decodeRecord before .1)) ≡ some f) × (after ≡ before)
+CountedIn κ m before after (Refused f) = (countedFault κ (nextRecord κ m (decodeRecord before .1)) ≡ some f) × (after ≡ before)
 
 -- the first counted message makes the record: the row of its cells, and its route
 pub record FirstIn (κ : Config) (m : Message) (address : ℕ) (after : List ℕ) (r : Route) : Type 0 where
@@ -56,7 +56,7 @@ isCounted κ m b x = b && not (isRepeated κ m x)
 
 -- the next record takes the place of x, unless it is refused
 abbrev pub isTaken : Config → Message → (bidirectional : Bool) → (x : TableRecord) → Bool
-isTaken κ m b x = isCounted κ m b x && maybe (faultOf κ (nextRecord κ m x)) true (λ f. false)
+isTaken κ m b x = isCounted κ m b x && maybe (countedFault κ (nextRecord κ m x)) true (λ f. false)
 
 -- the answer a by the record y that is left, where the message came by link l and is fresh or not
 pub record Answered (κ : Config) (l : ℕ) (y : TableRecord) (new : Bool) (a : Answer) : Type 0 where
@@ -68,7 +68,7 @@ pub record Answered (κ : Config) (l : ℕ) (y : TableRecord) (new : Bool) (a : 
 abbrev pub Answers : Config → Message → (bidirectional : Bool) → (x : TableRecord) → Heard → Type 0
 Answers κ m b x (H.Counted a) = (isTaken κ m b x ≡ true) × Answered κ (m .link) (nextRecord κ m x) (isFreshIn κ m x) a
 Answers κ m b x (H.Uncounted a) = (isCounted κ m b x ≡ false) × Answered κ (m .link) x (isFreshIn κ m x) a
-Answers κ m b x (H.Refused f) = (isCounted κ m b x ≡ true) × (faultOf κ (nextRecord κ m x) ≡ some f)
+Answers κ m b x (H.Refused f) = (isCounted κ m b x ≡ true) × (countedFault κ (nextRecord κ m x) ≡ some f)
 
 -- and the row of its cells is that of what is left
 pub record HeardIn (κ : Config) (m : Message) (bidirectional : Bool) (before after : List ℕ) (r : Heard) : Type 0 where

@@ -2,15 +2,14 @@
 use cells_moves::fill;
 use count_best_link::Step;
 use count_entries::keep_entries;
+use count_entries::too_many;
 use count_links::Left;
 use count_links::Spot;
 use count_links::locate;
 use count_links::recount;
-use packet_codec::entries::entry_count;
 use rules::Ogm;
 use rules::Policy;
 use rules::Route;
-use rules::limits::ENTRIES_MOST;
 use rules::limits::LINKS_MOST;
 use table_record::ADDRESS;
 use table_record::BEST;
@@ -41,7 +40,6 @@ ghost use mathlib.Core.Path.{_≡_};
 ghost use mathlib.Core.Bool.{true, cond};
 ghost use mathlib.Core.List.{_∷_, _++_};
 ghost use Prim.Native.Nat.{_*_, _%_, _≤_};
-ghost use lib.Dec.{ltb};
 ghost use lib.ListN.{length, getD};
 ghost use Rattle.cells.specs.Area.{fit};
 ghost use Rattle.wire.specs.Check.{entries};
@@ -110,13 +108,6 @@ fn store_message(
     if replaced {
         keep_entries(row, hna);
     }
-}
-
-// Whether a record may not keep so many entries.
-fn too_many(hna: &[u8]) -> bool
-    ensures { λ r. ⌜ r ≡ ltb entryMost (entries (now (hna .entry))) ⌝ }
-{
-    ENTRIES_MOST < entry_count(hna) as u64
 }
 
 // Counts a message whose link stands at this spot. Nothing changes where it is refused: the links are written to a scratch first, and to the row

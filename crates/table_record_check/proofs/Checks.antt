@@ -5,20 +5,17 @@ use mathlib.Core.Bool.{Bool, true, false, false≢true, cond, _&&_, _||_, not, a
 use mathlib.Core.Option.{some}
 use Prim.Native.Nat.{ℕ, zero, suc, _+_, _*_, _-_, _/_, _%_, _^_, _≤_, _<_}
 use native.Mathlib.Nat.{sub-zero}
-use native.Mathlib.Numerals.{add-one}
 use native.Mathlib.Omega.{arith}
 use lib.Dec.{leb, ltb, eqb}
-use lib.ListN.{length, take, drop, getD}
-use lib.Seq.{drop-cons, drop-length}
+use lib.ListN.{take, drop, getD}
 use lib.Pow.{pow-pos}
-use lib.Bits.{bitOr}
 use borrow.Author.Tests.{lt-ltb, ltb-true, ltb-false, leb-true, leb-false, eq-eqb, ne-eqb}
 use Rattle.lists.specs.Lists.{and, all, maybe}
 use Rattle.lists.specs.Keyed.{lookup, hasKey, rising}
 use Rattle.cells.specs.Area.{allZero, rowsOf, scan}
 use Rattle.lists.proofs.Tests.{and-left, and-right}
 use Rattle.lists.proofs.Lists.{all-map}
-use Rattle.cells.proofs.Keys.{no-bit, scan-next, scan-stop, scan-end, scan-is}
+use Rattle.cells.proofs.Keys.{scan-next, scan-stop, scan-end, scan-is}
 use Rattle.window.specs.Window.{hasMark}
 use Rattle.wire.specs.Layout.{maskMost}
 use Rattle.wire.specs.Entries.{networkOf, maskOf}
@@ -141,16 +138,6 @@ entry-tests e = go (ltb (e / 256) addresses) refl (leb (e % 256) maskMost) refl
     go true p true q = eq-eqb fault 0 (omega (arith, ltb-true (e / 256) addresses p, leb-true (e % 256) maskMost q))
     go true p false q = ne-eqb fault 0 (omega (arith, leb-false (e % 256) maskMost q))
     go false p b q = ne-eqb fault 0 (omega (arith, ltb-false (e / 256) addresses p))
-
--- the faults v of the entries before place i, joined with that of the entry there
-pub entries-next : (es : List ℕ) (i : ℕ) → i < length es → (v f : ℕ) → eqb f 0 ≡ and (entryTests (getD es i 0))
-    → eqb v 0 && entriesOk (drop i es) ≡ eqb (bitOr v f) 0 && entriesOk (drop (i + 1) es)
-entries-next es i h v f e =
-    ap (λ (l : List ℕ). eqb v 0 && entriesOk l) (drop-cons es i 0 h) ∙ (λ j. eqb v 0 && (sym e j && entriesOk (drop (sym (add-one i) j) es)))
-    ∙ sym (and-assoc (eqb v 0) (eqb f 0) (entriesOk (drop (i + 1) es))) ∙ ap (λ (b : Bool). b && entriesOk (drop (i + 1) es)) (sym (no-bit v f))
-
-pub entries-end : (es : List ℕ) (i : ℕ) → i ≡ length es → entriesOk (drop i es) ≡ true
-entries-end es i e = ap (λ (k : ℕ). entriesOk (drop k es)) e ∙ ap entriesOk (drop-length es)
 
 -- ---- the whole record
 

@@ -1,13 +1,15 @@
 -- `call_receive_relay::first_heard` meets its contract: not counted, 10, 15, or the record is made. Assumes nothing.
-use mathlib.Core.Path.{_≡_, refl, ap, _∙_, subst}
+use mathlib.Core.Path.{_≡_, refl, sym, ap, _∙_, subst}
 use mathlib.Core.List.{List}
 use Prim.Native.Nat.{ℕ}
 use native.Mathlib.Omega.{arith}
 use borrow.Author.Needs.{needs}
-use borrow.Author.Tests.{not-true, not-false}
+use lib.Dec.{ltb}
+use borrow.Author.Tests.{ltb-true, ltb-false, not-true, not-false}
 use denote.Ref.{now}
 use Rattle.wire.specs.Packet.{hna}
 use Rattle.wire.specs.Check.{entries}
+use Rattle.rules.specs.Settings.{entryMost}
 use Rattle.rules.specs.Messages.{messageOf}
 use Rattle.table_originators.specs.Originators.{Made}
 use Rattle.call_receive_arrival.specs.Receiving.{callOf}
@@ -24,7 +26,7 @@ made c = c .before .before .before .before
 abbrev room : tie.After-make-record → tie.Else3
 room c = c .before .before .before
 
-abbrev places : tie.After-entry-count → tie.Else2
+abbrev places : tie.After-too-many → tie.Else2
 places c = c .before .before
 
 abbrev counted : tie.Else2 → tie.Else1
@@ -33,9 +35,9 @@ counted c = c .before .before .before
 abbrev entry : tie.Else1 → tie.Start
 entry c = c .before .before .before .before
 
--- how many entries the packet has
-many : (c : tie.After-entry-count) → c .entry-count .result ≡ entries (hna (now (entry (counted (places c)) .args .packet)))
-many c = c .entry-count .ensures ∙ ap entries (c .before .hna-of .ensures)
+-- whether the packet has too many entries
+many : (c : tie.After-too-many) → c .too-many .result ≡ ltb entryMost (entries (hna (now (entry (counted (places c)) .args .packet))))
+many c = c .too-many .ensures ∙ ap (λ (e : List ℕ). ltb entryMost (entries e)) (c .before .hna-of .ensures)
 
 -- ---- the ends
 
@@ -62,14 +64,14 @@ returns-3 c =
     let e = counted r in
     let s = entry e in
     refused-left (s .pre .0 .taken .knows) (callOf (now (s .args .packet)) (now (s .args .out)) (s .args .m))
-    (first-many (s .pre .0) (s .pre .1) (not-false _ (e .if1 .left)) (omega (arith, r .if2 .left)) (omega (arith, t .if3 .taken, many n))) refl (c .before .refusal2 .ensures) (c .refused2 .ensures)
+    (first-many (s .pre .0) (s .pre .1) (not-false _ (e .if1 .left)) (omega (arith, r .if2 .left)) (ltb-true entryMost (entries (hna (now (s .args .packet)))) (sym (many n) ∙ t .if3 .taken))) refl (c .before .refusal2 .ensures) (c .refused2 .ensures)
 
 make-record-requires : tie.Need-make-record-requires
 make-record-requires c κs =
     let n = c .before .before .before in
     let r = places n in
     let s = entry (counted r) in
-    (s .pre .1, omega (arith, r .if2 .left), s .pre .0 .taken .link, omega (arith, c .before .before .if3 .left, n .entry-count .ensures))
+    (s .pre .1, omega (arith, r .if2 .left), s .pre .0 .taken .link, ltb-false entryMost (entries (now (n .before .hna-of .result))) (sym (n .too-many .ensures) ∙ c .before .before .if3 .left))
 
 conclude-requires-2 : tie.Need-conclude-requires-2
 conclude-requires-2 c κs =
@@ -87,7 +89,7 @@ returns-4 c =
     let s = entry e in
     let a = s .args in
     let record-made = subst (λ (x : List ℕ). Made (now (a .cells)) (m .make-record .last .0) (a .m .originator) (messageOf (a .m .ogm) x) (m .make-record .result)) (n .before .hna-of .ensures) (m .make-record .ensures) in
-    first-made (s .pre .0) (s .pre .1) (not-false _ (e .if1 .left)) (omega (arith, r .if2 .left)) (omega (arith, l .if3 .left, many n)) record-made (k .conclude2 .ensures)
+    first-made (s .pre .0) (s .pre .1) (not-false _ (e .if1 .left)) (omega (arith, r .if2 .left)) (ltb-false entryMost (entries (hna (now (a .packet)))) (sym (many n) ∙ l .if3 .left)) record-made (k .conclude2 .ensures)
 
 pub first-heard-spec : {M : Type 1} → statement M
 first-heard-spec =

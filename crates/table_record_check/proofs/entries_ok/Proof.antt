@@ -9,8 +9,8 @@ use lib.ListN.{drop}
 use Rattle.lists.specs.Lists.{and}
 use Rattle.cells.specs.Area.{fit}
 use Rattle.cells.proofs.Areas.{length-fit, getD-fit}
+use Rattle.cells.proofs.Keys.{joined-next, joined-end}
 use Rattle.rules.specs.WellFormed.{entryTests, entriesOk}
-use Rattle.table_record_check.proofs.Checks.{entries-next, entries-end}
 use Rattle.table_record_check.proofs.entries_ok.Statement.{statement}
 use Rattle.table_record_check.proofs.entries_ok.Tie as tie
 
@@ -29,14 +29,14 @@ loop-again c =
     let a = c .before .before .before .before .before .args in
     let es = fit (a .n) (a .part .now) in
     let f = c .entry-fault .ensures ∙ ap (λ (x : ℕ). and (entryTests x)) (sym (getD-fit (a .n) (a .part .now) (l .i) (omega arith))) in
-    (omega arith, sym (entries-next es (l .i) (omega (arith, length-fit (a .n) (a .part .now))) (l .bits) (c .entry-fault .result) f) ∙ l .inv .1)
+    (omega arith, sym (joined-next (λ x. and (entryTests x)) es (l .i) (omega (arith, length-fit (a .n) (a .part .now))) (l .bits) (c .entry-fault .result) f) ∙ l .inv .1)
 
 returns : tie.Need-returns Inv-loop μ-loop
 returns c =
     let l = c .before .loop in
     let a = c .before .before .before .args in
     let es = fit (a .n) (a .part .now) in
-    sym (and-true (eqb (l .bits) 0)) ∙ ap (λ (b : Bool). eqb (l .bits) 0 && b) (sym (entries-end es (l .i) (omega (arith, length-fit (a .n) (a .part .now))))) ∙ l .inv .1
+    sym (and-true (eqb (l .bits) 0)) ∙ ap (λ (b : Bool). eqb (l .bits) 0 && b) (sym (joined-end (λ x. and (entryTests x)) es (l .i) (omega (arith, length-fit (a .n) (a .part .now))))) ∙ l .inv .1
 
 pub entries-ok-spec : {M : Type 1} → statement M
 entries-ok-spec =

@@ -3,8 +3,8 @@ use borrow.Author.Needs.{needs}
 use mathlib.Core.Path.{ap}
 use lib.Dec.{ltb}
 use Rattle.rules.specs.Settings.{entryMost}
-use Rattle.count_in_record.proofs.too_many.Statement.{statement}
-use Rattle.count_in_record.proofs.too_many.Tie as tie
+use Rattle.count_entries.proofs.too_many.Statement.{statement}
+use Rattle.count_entries.proofs.too_many.Tie as tie
 
 returns : tie.Need-returns
 returns c = ap (ltb entryMost) (c .entry-count .ensures)
