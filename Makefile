@@ -53,7 +53,7 @@ c-tests:
 	@$(TESTED) examples/check.c $(ARCHIVE) -o $(BUILD)/check
 	@$(BUILD)/check | diff tests/check.expected - && echo "example: prints what it should"
 	@$(BUILD)/check 04003200012c00000a010007 04C0fF07FFFF10D2C0A80901C0a8090018 04003200012c00000a0100 05003000000510d20a4e0003 04003200012c00000a01000701 \
-	    04003200012c00000a010007000000000000000000ff | diff tests/check-arguments.expected - && echo "example: reads packets in hex"
+	    04003200012c00000a010007000000000000000000ff 04003200012c00000a0100070a01000710 | diff tests/check-arguments.expected - && echo "example: reads packets in hex"
 	@$(BUILD)/check 04003200012g 2> /dev/null; [ $$? -eq 2 ] || { echo "error: the example took a bad argument"; exit 1; }
 	@$(TESTED) tests/relay_filter.c filter/relay_filter.c $(ARCHIVE) -o $(BUILD)/relay_filter
 	@$(BUILD)/relay_filter

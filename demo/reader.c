@@ -51,6 +51,7 @@ size_t reader_own(struct reader *r, uint64_t now, const uint8_t *hna, size_t hna
     case BATMAN_WRONG_SIZE: /* more than 292 HNA entries: announce fewer, and no more than 16, or others refuse the packet by 15 */
     case BATMAN_RAGGED_ENTRIES: /* HNA octets that are no whole entries */
     case BATMAN_WRONG_MASK: /* a mask above 32 in the configuration: entry w.place */
+    case BATMAN_HOST_BITS_SET: /* an address with host bits set in the configuration, entry w.place: a daemon clears them where it reads that, and announces the network */
     case BATMAN_TTL_TOO_LOW: /* a TTL below 2 in the configuration */
     default: stop(r, "an own packet", w.number);
     }
@@ -108,6 +109,7 @@ static bool handle_answer(struct reader *r, struct batman_received a)
     case BATMAN_RAGGED_ENTRIES: /* HNA octets that are no whole entries */
     case BATMAN_WRONG_MASK: /* a mask above 32, in entry a.place */
         return false; /* anyone can send such octets: drop them, and log no more than now and then */
+    case BATMAN_HOST_BITS_SET: /* its originator announces a network with host bits set, in entry a.place: log that now and then; they have to be cleared there */
     case BATMAN_NEIGHBOURS_FULL: /* 32 neighbours are held: this one stays unidirectional until another falls silent */
     case BATMAN_ORIGINATORS_FULL: /* the table is full: drop it; a daemon sweeps if it has not for long, or makes a larger table */
     case BATMAN_LINKS_FULL: /* eight other links to this originator are held: one more is not needed */
@@ -180,6 +182,7 @@ const char *reader_meaning(unsigned number)
     case BATMAN_WRONG_VERSION: return "refused: another version";
     case BATMAN_RAGGED_ENTRIES: return "refused: ragged HNA entries";
     case BATMAN_WRONG_MASK: return "refused: a mask above 32";
+    case BATMAN_HOST_BITS_SET: return "refused: a network with host bits";
     case BATMAN_NEIGHBOURS_FULL: return "refused: 32 neighbours are held";
     case BATMAN_ORIGINATORS_FULL: return "refused: the table is full";
     case BATMAN_LINKS_FULL: return "refused: 8 other links are held";

@@ -14,18 +14,21 @@ static const char usage[] =
     "Checks each packet, given as two hex digits an octet, against version 4; without arguments a few that are built in.\n"
     "Exit status 0, also where a packet is refused; 2 for an argument that can't be read.\n";
 
+/* Whether a refusal comes with the place of an HNA entry. */
+static bool has_place(uint64_t number) { return number == BATMAN_WRONG_MASK || number == BATMAN_HOST_BITS_SET; }
+
 /* Prints what the check answers and begins no new line; whether the packet is accepted. */
 static bool check(const char *what, const uint8_t *packet, size_t length)
 {
-    uint64_t answer = batman_packet_check(packet, length, VERSION);
+    uint64_t answer = batman_packet_check(packet, length, VERSION), number = batman_refusal_number(answer);
     printf("%-34s %4zu octets: ", what, length);
-    if (answer == 0)
+    if (number == 0)
         printf("accepted");
-    else if (batman_refusal_number(answer) == BATMAN_WRONG_MASK)
-        printf("refused by 8 at HNA entry %" PRIu64, batman_refusal_place(answer));
     else
-        printf("refused by %" PRIu64, answer);
-    return answer == 0;
+        printf("refused by %" PRIu64, number);
+    if (has_place(number))
+        printf(" at HNA entry %" PRIu64, batman_refusal_place(answer));
+    return number == 0;
 }
 
 static void show(const char *what, const uint8_t *packet, size_t length)
@@ -37,6 +40,7 @@ static void show(const char *what, const uint8_t *packet, size_t length)
 static void show_built_in(void)
 {
     static uint8_t packet[BATMAN_READ_SIZE] = {4, 0, 50, 0, 1, 44, 0, 0, 10, 1, 0, 7}; /* version 4, TTL 50, number 300, originator 10.1.0.7 */
+    static const uint8_t network[BATMAN_ENTRY_SIZE] = {10, 1, 0, 0, 16};
     show("an originator message", packet, 12);
     show("cut short", packet, 11);
     show("the longest packet", packet, 1472);
@@ -46,6 +50,10 @@ static void show_built_in(void)
     packet[21] = 33;
     show("a mask of 32", packet, 17);
     show("then a mask of 33", packet, 22);
+    memcpy(packet + 17, network, sizeof network);
+    show("then 10.1.0.0 with mask 16", packet, 22);
+    packet[20] = 7;
+    show("then 10.1.0.7 with mask 16", packet, 22);
     packet[0] = 5;
     show("another version", packet, 12);
 }

@@ -34,7 +34,8 @@ enum batman_limit {
     BATMAN_CELLS_MOST = BATMAN_CELLS(BATMAN_CAPACITY_MOST)
 };
 
-/* Why a call is refused. Each call gives the first that applies, in this order; 0 is no refusal. */
+/* Why a call is refused. Each call gives the first that applies, in the order of this list, which is not that of the numbers: 16 stands between 8 and 9.
+ * 0 is no refusal. 8 and 16 come with a place: that of the first such HNA entry of the packet, counted from 0. */
 enum batman_refusal {
     BATMAN_NOT_WELL_FORMED = 1,   /* the cells are not a well-formed table's */
     BATMAN_NOT_IN_USE = 2,        /* no such interface in use */
@@ -43,7 +44,8 @@ enum batman_refusal {
     BATMAN_WRONG_SIZE = 5,        /* fewer than 12 or more than 1,472 octets */
     BATMAN_WRONG_VERSION = 6,     /* the first octet is not the version asked for */
     BATMAN_RAGGED_ENTRIES = 7,    /* the octets after the first 12 are not a multiple of 5 */
-    BATMAN_WRONG_MASK = 8,        /* an HNA entry has a mask length above 32; comes with the place of the first such entry */
+    BATMAN_WRONG_MASK = 8,        /* an HNA entry has a mask length above 32 */
+    BATMAN_HOST_BITS_SET = 16,    /* an HNA entry's address has host bits set, the low 32 - mask ones: as 10.1.0.7 with mask 16; with mask 0 only 0.0.0.0 has none */
     BATMAN_NEIGHBOURS_FULL = 9,   /* 32 neighbour rows are held and another would be needed */
     BATMAN_ORIGINATORS_FULL = 10, /* as many originators as the capacity are held and another would be needed */
     BATMAN_LINKS_FULL = 11,       /* more than 8 links of the originator would be held */
@@ -69,15 +71,15 @@ enum batman_verdict {
  * Each buffer of a call is a pointer and how many elements it has. The pointer is aligned for them (8 octets for cells, lengths,
  * interfaces and answer rows, 4 for senders and link rows, any for packets, HNA octets and outputs); with length 0 it may be anything, NULL too. Buffers of one call must not overlap, packet and output among them. */
 
-/* Checks a received packet, before anything else is done with it.
+/* Checks a received packet, before anything else is done with it. Refused by 5, 6, 7, 8 and 16, in this order.
  *
  * packet   the octets as they came (not read where length is 0)
  * length   how many there are, 0 and any larger number included
  * version  the packet version in use, 4 by default; any number may be given, and one above 255 never equals an octet
  *
- * Answers 0 for a packet without fault. Otherwise the first of the refusals 5 to 8 that applies; refusal 8 comes with the place, from 0, of
- * the first HNA entry whose mask is above 32: the answer is then 8 + 256 * place. Take it apart by batman_refusal_number and
- * batman_refusal_place. */
+ * Answers 0 for a packet without fault, and otherwise the first of these refusals that applies. 8 and 16 come with the place of the first HNA entry whose mask
+ * is above 32, or whose host bits are set: the answer is then 8 + 256 * place, or 16 + 256 * place. Where any mask of the packet is above 32 it is 8, whichever
+ * entries have host bits set. Take the answer apart by batman_refusal_number and batman_refusal_place. */
 uint64_t batman_packet_check(const uint8_t *packet, size_t length, uint64_t version);
 
 static inline uint64_t batman_refusal_number(uint64_t answer) { return answer % 256; }
@@ -87,7 +89,7 @@ static inline uint64_t batman_refusal_place(uint64_t answer) { return answer / 2
  *
  * A table lies in cells of 64 bits that the caller lends to every call: BATMAN_CELLS says how many, docs/LAYOUT.md how they are laid
  * out. Every call but make and the packet check begins by checking the whole table: cells that are no well-formed table are refused by 1.
- * A refused call answers its number, every other field 0 (but the place for 8), and changes no cell, no octet and no row. */
+ * A refused call answers its number, every other field 0 (but the place for 8 and 16), and changes no cell, no octet and no row. */
 
 /* A link on which a message was counted becomes best where its count is above every other link's. Where it is level with the highest of them: */
 enum batman_tie {
@@ -127,7 +129,8 @@ struct batman_route {
 };
 
 struct batman_received {
-    uint64_t number, place;
+    uint64_t number;
+    uint64_t place;            /* with 8 and 16: which HNA entry of the packet, from 0; else 0 */
     struct batman_route route; /* to the packet's originator, as the call leaves the table */
     uint8_t flags;             /* with 26: octet 1 of the copies for the other interfaces */
 };
@@ -138,7 +141,8 @@ struct batman_burst {
 };
 
 struct batman_written {
-    uint64_t number, place;
+    uint64_t number;
+    uint64_t place;    /* with 8 and 16: which of the HNA entries given, from 0; else 0 */
     uint64_t length;   /* how many octets were written */
     uint16_t sequence; /* the packet's sequence number */
 };
@@ -170,7 +174,7 @@ struct batman_located {
     uint64_t number;
     uint32_t found;      /* 1 where an entry covers the address, else 0 */
     uint32_t originator; /* whose entry it is: held, so that batman_best answers a route to it */
-    uint32_t network;    /* the entry's network as announced: bits below the mask may be set */
+    uint32_t network;    /* the entry's network as it is held; only one that an earlier version took up may have host bits set (see below) */
     uint32_t mask;       /* the entry's mask length, 0 to 32 */
 };
 
@@ -180,7 +184,8 @@ uint64_t batman_cells_needed(uint64_t capacity);
 /* Makes a fresh table in all the cells given, whatever they held: 0, or 12 and nothing is changed. */
 uint64_t batman_make(uint64_t *cells, size_t count, struct batman_settings settings, struct batman_interfaces interfaces);
 
-/* Takes a received packet: `length` octets from `sender`, heard by `interface` at `time` in milliseconds. Refused by 1 to 11, and then by 15.
+/* Takes a received packet: `length` octets from `sender`, heard by `interface` at `time` in milliseconds. Refused by 1 to 8, 16,
+ * 9, 10, 11 and 15, in this order: so a packet with host bits set in any of its HNA entries is refused whoever sent it, and never passed on.
  * With 26 the first `length` octets of the output are the copy to be sent on the receiving interface; nothing else is ever written there.
  * `room` is how many octets the output has, and must be at least `length` whatever the verdict: 4 stands before 5, so a stranger's long datagram
  * gets 4 from a shorter output. Read datagrams into BATMAN_READ_SIZE octets, lend an output of as many, and drop what gets 4. */
@@ -192,7 +197,7 @@ struct batman_received batman_receive(uint64_t *cells, size_t count, const uint8
  * Each list has a number of members of its own: they must be the same, and the lengths must add up to `length`. `answers` are rows for the answers, `rows`
  * of them, no fewer than packets. Refused by 1, and then by 14; nothing is changed.
  * Otherwise it does what batman_receive does with each packet in turn, given the rest of the output from where the copy before it ended: row i is
- * the answer to packet i, refusals among them, and where it is 26 that packet's copy stands behind those of the packets before it. A packet that is refused
+ * the answer to packet i, refusals and their places among them, and where it is 26 that packet's copy stands behind those of the packets before it. A packet that is refused
  * doesn't stop those after it. Further rows, and the output behind what is written, are left as they are; a burst of no packets changes nothing.
  * With an output of as many octets as `octets` no packet gets 4. */
 struct batman_burst batman_receive_burst(uint64_t *cells, size_t count, const uint8_t *octets, size_t length, const uint64_t *lengths,
@@ -200,9 +205,11 @@ struct batman_burst batman_receive_burst(uint64_t *cells, size_t count, const ui
                                          size_t interfaces_count, uint64_t time, uint8_t *output, size_t room, struct batman_received *answers,
                                          size_t rows);
 
-/* Writes an interface's next own packet at the start of the output, and nothing behind it. Refused by 1 to 5, 7, 8 and 13.
+/* Writes an interface's next own packet at the start of the output, and nothing behind it. Refused by 1 to 5, 7, 8, 16 and 13, in this order.
  * `hna` are the octets after the packet's first 12, `hna_length` of them; `room` is how many octets the output has.
- * Announce no more than 16 entries: more are written as given, but nodes with this library refuse such a packet by 15. */
+ * Announce no more than 16 entries: more are written as given, but nodes with this library refuse such a packet by 15.
+ * Announce the network, and not an address in it: 16 says that entry `place` has host bits set. Clear them where the configuration is read, by
+ * network & (mask == 0 ? 0 : UINT32_MAX << (32 - mask)), so that 10.1.0.7 with mask 16 becomes 10.1.0.0. */
 struct batman_written batman_own_packet(uint64_t *cells, size_t count, uint64_t interface, uint64_t time, uint8_t ttl, uint8_t gateway,
                                         uint16_t port, const uint8_t *hna, size_t hna_length, uint8_t *output, size_t room);
 
@@ -225,7 +232,12 @@ struct batman_listed batman_list(const uint64_t *cells, size_t count, uint32_t o
  *
  * A message that would replace them by more than 16 is refused by 15, and nothing of it is taken. To a daemon that means: an originator that announces more is not
  * taken up; one that is held keeps its older entries, and is swept where nothing else of it is counted for the purge timeout. Nor is such a packet passed on, so that
- * through this node others don't hear of it either. A node with more than 16 networks has to announce them joined under shorter masks. */
+ * through this node others don't hear of it either. A node with more than 16 networks has to announce them joined under shorter masks.
+ *
+ * A message with host bits set in any entry is refused by 16, whether it would replace them or not, so that no network is taken up under two names (10.1.0.7 and 10.1.0.0, both
+ * with mask 16). What follows for a daemon is as with 15; the operator of such a node has to clear the bits there. Earlier versions took these entries up and passed them on. A
+ * table that one of them has filled is well-formed as before, since the cells are the same: such an entry stays until it is replaced or swept with its record, and until then
+ * a lookup finds it. Where you go on with such a table, clear the host bits of a lookup's `network` before you set a route by it or compare it with another. */
 
 /* Which originator's entry covers an address: of all entries held the one with the longest mask; of equal masks that of the smaller originator address, and of one
  * originator's the earlier in its list. An entry covers an address that agrees with its network in as many leading bits as the mask says: mask 0 covers every

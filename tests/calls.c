@@ -112,19 +112,26 @@ static void sending(void)
     expect("the next number", w.sequence, 0);
     w = batman_own_packet(cells, CELLS, 1, 5, 2, 0, 0, hna, 5, out, 17);
     expect("the other interface's first number", w.sequence, 7);
+}
+
+/* The lowest octet of an address with host bits set; every mask that it is used with leaves it some. */
+enum { HOST = 7 };
+
+/* Own packets with a fault that stands before 16. `host` is the lowest octet of the first entry's address, 0 or HOST: which of them changes no answer. */
+static void own_packets_refused(uint8_t host)
+{
+    uint8_t hna[10] = {192, 168, 9, host, 24, 10, 0, 0, 0, 33}, many[1465] = {0, 0, 0, host}, out[1500];
     memcpy(kept, cells, sizeof cells);
-    expect("interface 2", seen(batman_own_packet(cells, CELLS, 2, 5, 50, 0, 0, hna, 0, out, 40).number), BATMAN_NOT_IN_USE);
-    expect("an earlier time", seen(batman_own_packet(cells, CELLS, 0, 4, 50, 0, 0, hna, 0, out, 40).number), BATMAN_TIME_BEFORE);
+    expect("interface 2", seen(batman_own_packet(cells, CELLS, 2, 5, 50, 0, 0, hna, 5, out, 40).number), BATMAN_NOT_IN_USE);
+    expect("an earlier time", seen(batman_own_packet(cells, CELLS, 0, 4, 50, 0, 0, hna, 5, out, 40).number), BATMAN_TIME_BEFORE);
     expect("an output too short", batman_own_packet(cells, CELLS, 0, 5, 50, 0, 0, hna, 5, out, 16).number, BATMAN_SHORT_OUTPUT);
-    expect("an empty output", batman_own_packet(cells, CELLS, 0, 5, 50, 0, 0, hna, 0, NULL, 0).number, BATMAN_SHORT_OUTPUT);
+    expect("an empty output", batman_own_packet(cells, CELLS, 0, 5, 50, 0, 0, hna, 5, NULL, 0).number, BATMAN_SHORT_OUTPUT);
+    expect("1,465 HNA octets", batman_own_packet(cells, CELLS, 0, 5, 50, 0, 0, many, sizeof many, out, sizeof out).number, BATMAN_WRONG_SIZE);
     expect("four HNA octets", batman_own_packet(cells, CELLS, 0, 5, 50, 0, 0, hna, 4, out, 40).number, BATMAN_RAGGED_ENTRIES);
-    hna[9] = 33;
-    w = batman_own_packet(cells, CELLS, 0, 5, 50, 0, 0, hna, 10, out, 40);
+    expect("nine HNA octets", batman_own_packet(cells, CELLS, 0, 5, 50, 0, 0, hna, 9, out, 40).number, BATMAN_RAGGED_ENTRIES);
+    struct batman_written w = batman_own_packet(cells, CELLS, 0, 5, 50, 0, 0, hna, 10, out, 40);
     expect("a mask of 33", w.number, BATMAN_WRONG_MASK);
     expect("its place", w.place, 1);
-    expect("TTL 1", seen(batman_own_packet(cells, CELLS, 0, 5, 1, 0, 0, hna, 0, out, 40).number), BATMAN_TTL_TOO_LOW);
-    uint8_t many[1465] = {0}, large[1500];
-    expect("1,465 HNA octets", batman_own_packet(cells, CELLS, 0, 5, 50, 0, 0, many, 1465, large, sizeof large).number, BATMAN_WRONG_SIZE);
     expect("a refused own packet changed a cell", memcmp(cells, kept, sizeof cells) != 0, 0);
 }
 
@@ -179,35 +186,53 @@ static void begin(struct batman_settings s)
     expect("own packet", batman_own_packet(small, SMALL, 0, 9, 50, 0, 0, NULL, 0, output, sizeof output).sequence, 65535);
 }
 
-/* The packet comes back from the neighbours 1 to `neighbours`: their links are bidirectional. */
-static void echo(uint32_t neighbours)
+/* The packet comes back from these neighbours: their links are bidirectional. */
+static void echo(uint32_t first, uint32_t last)
 {
-    for (uint32_t neighbour = 1; neighbour <= neighbours; neighbour++)
+    for (uint32_t neighbour = first; neighbour <= last; neighbour++)
         expect("an echo", seen(hear(neighbour, US, 65535, 64, 50).number), BATMAN_ECHO);
+}
+
+/* Before calls that are refused; and after them, that they have changed no cell and no octet of the output. */
+static void keep_all(void)
+{
+    memcpy(small_kept, small, sizeof small);
+    memset(output, 238, sizeof output);
+}
+
+static void all_kept(void)
+{
+    expect("a refused call changed a cell", memcmp(small, small_kept, sizeof small) != 0, 0);
+    for (size_t i = 0; i < sizeof output; i++)
+        expect("a refused call wrote an octet", output[i], 238);
+}
+
+/* The answer to a packet is this refusal, and every field behind its place is 0. */
+static void is_refused(const char *what, struct batman_received r, uint64_t number, uint64_t place)
+{
+    expect(what, seen(r.number), number);
+    expect("its place", r.place, place);
+    expect("another field of a refusal", r.flags + r.route.neighbour + r.route.interface + r.route.count + r.route.window, 0);
 }
 
 /* One packet as it stands, refused with nothing changed. */
 static void turned_away(const char *what, const uint8_t *packet, size_t length, uint64_t interface, uint64_t time, size_t room, uint64_t number, uint64_t place)
 {
-    memcpy(small_kept, small, sizeof small);
-    memset(output, 238, sizeof output);
-    struct batman_received r = batman_receive(small, SMALL, packet, length, 7, interface, time, output, room);
-    expect(what, seen(r.number), number);
-    expect("its place", r.place, place);
-    expect("another field of a refusal", r.flags + r.route.neighbour + r.route.interface + r.route.count + r.route.window, 0);
-    expect("a refused packet changed a cell", memcmp(small, small_kept, sizeof small) != 0, 0);
-    for (size_t i = 0; i < sizeof output; i++)
-        expect("a refused packet wrote an octet", output[i], 238);
+    keep_all();
+    is_refused(what, batman_receive(small, SMALL, packet, length, 7, interface, time, output, room), number, place);
+    all_kept();
 }
 
-static void packets_refused(void)
+/* Packets with a fault that stands before 16. `host` is the lowest octet of the first entry's address, 0 or HOST: which of them changes no answer. */
+static void packets_refused(uint8_t host)
 {
-    uint8_t packet[1500] = {4, 0, 50, 0, 0, 1, 0, 0, 0, 0, 3, 132};
-    turned_away("an interface not in use", packet, 12, 2, 9, 12, BATMAN_NOT_IN_USE, 0);
-    turned_away("a time before the table's", packet, 12, 0, 8, 12, BATMAN_TIME_BEFORE, 0);
-    turned_away("an output shorter than the packet", packet, 12, 0, 9, 11, BATMAN_SHORT_OUTPUT, 0);
+    uint8_t packet[22] = {4, 0, 50, 0, 0, 1, 0, 0, 0, 0, 3, 132, 0, 0, 0, host};
+    turned_away("an interface not in use", packet, 17, 2, 9, 17, BATMAN_NOT_IN_USE, 0);
+    turned_away("a time before the table's", packet, 17, 0, 8, 17, BATMAN_TIME_BEFORE, 0);
+    turned_away("an output shorter than the packet", packet, 17, 0, 9, 16, BATMAN_SHORT_OUTPUT, 0);
     turned_away("11 octets", packet, 11, 0, 9, 12, BATMAN_WRONG_SIZE, 0);
     turned_away("16 octets", packet, 16, 0, 9, 16, BATMAN_RAGGED_ENTRIES, 0);
+    turned_away("21 octets", packet, 21, 0, 9, 21, BATMAN_RAGGED_ENTRIES, 0);
     packet[21] = 33;
     turned_away("a mask of 33", packet, 22, 0, 9, 22, BATMAN_WRONG_MASK, 1);
     packet[0] = 5;
@@ -296,7 +321,7 @@ static void verdicts(void)
     expect("U and D of its copy", output[1], 192);
     expect("the copy's TTL", output[2], 49);
     expect("no route yet", batman_best(small, SMALL, 7).route.window, 0);
-    echo(BATMAN_NEIGHBOURS_MOST);
+    echo(1, BATMAN_NEIGHBOURS_MOST);
     expect("a 33rd neighbour row", seen(hear(33, US, 65535, 64, 50).number), BATMAN_NEIGHBOURS_FULL);
     expect("U set", seen(hear(7, 900, 1, 128, 50).number), BATMAN_UNIDIRECTIONAL);
 
@@ -317,7 +342,8 @@ static void verdicts(void)
     expect("a third originator", seen(hear(7, 902, 1, 0, 50).number), BATMAN_ORIGINATORS_FULL);
     expect("a refused message changed a cell", memcmp(small, small_kept, sizeof small) != 0, 0);
     listing();
-    packets_refused();
+    packets_refused(0);
+    packets_refused(HOST);
     changed_tables();
     struct batman_swept swept = batman_sweep(small, SMALL, 640010);
     expect("swept", swept.removed, 2);
@@ -340,7 +366,7 @@ static void begin_ties(enum batman_tie tie)
     s.window = 8;
     s.tie = tie;
     begin(s);
-    echo(3);
+    echo(1, 3);
 }
 
 /* P8 of RULES 11.1: A is best with 9 and 10, C has 9 and draws level by 10. */
@@ -730,6 +756,8 @@ static void bursts(void)
 
 enum { TOO_MANY = BATMAN_ENTRIES_MOST + 1, PACKET_ENTRIES_MOST = 292, NETWORKS_WINDOW = 8, NEIGHBOURS = 9, HEARD_FROM = 7 };
 
+static const uint32_t HIGHEST_BIT = (uint32_t)1 << 31;
+
 static uint32_t dotted(uint8_t a, uint8_t b, uint8_t c, uint8_t d) { return (uint32_t)a << 24 | (uint32_t)b << 16 | (uint32_t)c << 8 | d; }
 
 /* A message with entries behind it. */
@@ -778,7 +806,7 @@ static void begin_networks(void)
     struct batman_settings s = defaults;
     s.window = NETWORKS_WINDOW;
     begin(s);
-    echo(NEIGHBOURS);
+    echo(1, NEIGHBOURS);
 }
 
 /* Asks, and sees that asking changes nothing. */
@@ -841,30 +869,30 @@ static void longest_mask(void)
     not_found("the address before all", dotted(9, 255, 255, 255));
 }
 
-/* 901 is heard first. Of equal masks 900's is found, of a longer one whosever it is; within a list the earlier, which bits below the mask tell apart. */
+/* 901 is heard first. Of equal masks 900's is found, of a longer one whosever it is. */
 static void equal_masks(void)
 {
     begin_networks();
-    take_entries(with(with(announce(901, 5), dotted(10, 1, 2, 1), 24), dotted(10, 1, 2, 128), 25));
-    found("901 alone", dotted(10, 1, 2, 9), 901, dotted(10, 1, 2, 1), 24);
-    take_entries(with(with(with(announce(900, 5), dotted(10, 1, 2, 9), 23), dotted(10, 1, 2, 8), 24), dotted(10, 1, 2, 7), 24));
-    found("equal masks", dotted(10, 1, 2, 9), 900, dotted(10, 1, 2, 8), 24);
+    take_entries(with(with(announce(901, 5), dotted(10, 1, 2, 0), 24), dotted(10, 1, 2, 128), 25));
+    found("901 alone", dotted(10, 1, 2, 9), 901, dotted(10, 1, 2, 0), 24);
+    take_entries(with(with(announce(900, 5), dotted(10, 1, 2, 0), 23), dotted(10, 1, 2, 0), 24));
+    found("equal masks", dotted(10, 1, 2, 9), 900, dotted(10, 1, 2, 0), 24);
     found("a longer mask of the larger originator", dotted(10, 1, 2, 129), 901, dotted(10, 1, 2, 128), 25);
-    found("a shorter mask alone", dotted(10, 1, 3, 9), 900, dotted(10, 1, 2, 9), 23);
+    found("a shorter mask alone", dotted(10, 1, 3, 9), 900, dotted(10, 1, 2, 0), 23);
 }
 
-/* Mask 0 covers every address; bits below a mask don't matter, and come back as announced. */
+/* Mask 0 covers every address; an address's bits below a mask don't matter. */
 static void any_address(void)
 {
     begin_networks();
-    take_entries(with(with(announce(900, 5), dotted(5, 6, 7, 8), 0), dotted(10, 1, 0, 7), 16));
-    found("the least address", 0, 900, dotted(5, 6, 7, 8), 0);
-    found("the largest address", UINT32_MAX, 900, dotted(5, 6, 7, 8), 0);
-    found("bits below the mask, all others", dotted(10, 1, 255, 248), 900, dotted(10, 1, 0, 7), 16);
-    found("bits below the mask, the highest bit above them other", dotted(138, 1, 0, 7), 900, dotted(5, 6, 7, 8), 0);
-    found("bits below the mask, the lowest bit above them other", dotted(10, 0, 0, 7), 900, dotted(5, 6, 7, 8), 0);
-    take_entries(with(announce(900, 6), UINT32_MAX, 1));
-    found("mask 1", (uint32_t)1 << 31, 900, UINT32_MAX, 1);
+    take_entries(with(with(announce(900, 5), 0, 0), dotted(10, 1, 0, 0), 16));
+    found("the least address", 0, 900, 0, 0);
+    found("the largest address", UINT32_MAX, 900, 0, 0);
+    found("bits below the mask, all of them", dotted(10, 1, 255, 255), 900, dotted(10, 1, 0, 0), 16);
+    found("the network's highest bit other", dotted(138, 1, 0, 0), 900, 0, 0);
+    found("the network's lowest bit other", dotted(10, 0, 0, 0), 900, 0, 0);
+    take_entries(with(announce(900, 6), HIGHEST_BIT, 1));
+    found("mask 1", UINT32_MAX, 900, HIGHEST_BIT, 1);
     not_found("mask 1, the other half", INT32_MAX);
 }
 
@@ -882,6 +910,11 @@ static void address_zero(void)
 
 /* Two addresses, each announced with mask 32: 10.1.1.1 and 10.2.2.2. */
 enum { OLD = 0x0a010101, NEW = 0x0a020202 };
+
+/* A network, the same with host bits set, and an address that both cover: 10.1.0.0, 10.1.0.7 and 10.1.1.2, the mask 16. */
+enum { NETWORK = 0x0a010000, WITH_HOST_BITS = NETWORK + HOST, COVERED = NETWORK + 0x0102, NETWORK_MASK = 16 };
+
+static struct announcement with_host_bits(struct announcement a) { return with(a, WITH_HOST_BITS, NETWORK_MASK); }
 
 static void begin_with_old(void)
 {
@@ -942,6 +975,9 @@ static void passed_on_uncounted(void)
     not_found("its entries", dotted(10, 9, 0, 1));
 }
 
+/* An entry as a record holds it. */
+static uint64_t entry_cell(uint32_t network, uint8_t mask) { return (uint64_t)network << 8 | mask; }
+
 /* 16 entries are held, each of them, in packet order; fewer leave zeros behind them. */
 static void most_entries(void)
 {
@@ -953,8 +989,8 @@ static void most_entries(void)
         found("one of 16", dotted(10, 9, (uint8_t)i, 1), 900, dotted(10, 9, (uint8_t)i, 0), 24);
     take_entries(with(with(announce(900, 6), NEW, 32), NEW, 32));
     expect("a repeated entry is held twice", record[ENTRIES_HELD_AT], 2);
-    expect("the first of them", record[ENTRIES_AT], (uint64_t)NEW << 8 | 32);
-    expect("the second of them", record[ENTRIES_AT + 1], (uint64_t)NEW << 8 | 32);
+    expect("the first of them", record[ENTRIES_AT], entry_cell(NEW, 32));
+    expect("the second of them", record[ENTRIES_AT + 1], entry_cell(NEW, 32));
     for (size_t i = 2; i < BATMAN_ENTRIES_MOST; i++)
         expect("a cell behind them", record[ENTRIES_AT + i], 0);
 }
@@ -977,18 +1013,25 @@ static void too_many_entries(void)
     found("the list is the one before", dotted(10, 9, 15, 1), 900, dotted(10, 9, 15, 0), 24);
 }
 
-/* What stands before 15: a mask (8), the capacity (10) and a ninth link (11), of messages with 17 entries. */
+/* A message that is refused by this number is refused by 16 where an entry with host bits stands behind its others. */
+static void host_bits_before(const char *what, struct announcement a, uint64_t number)
+{
+    entries_refused(what, a, number, 0);
+    entries_refused(what, with_host_bits(a), BATMAN_HOST_BITS_SET, (a.length - BATMAN_HEADER_SIZE) / BATMAN_ENTRY_SIZE);
+}
+
+/* What stands before 15, of messages with 17 entries: a mask (8), host bits (16), the capacity (10) and a ninth link (11). */
 static void earlier_refusals(void)
 {
     begin_networks();
     for (uint32_t link = 1; link <= NEIGHBOURS; link++)
         if (link != HEARD_FROM)
             hear_entries(link, many(900, 5, 1));
-    entries_refused("a ninth link and 17 entries in a new number", many(900, 6, TOO_MANY), BATMAN_LINKS_FULL, 0);
-    entries_refused("a window that drops eight links, and 17 entries", many(900, 100, TOO_MANY), BATMAN_ENTRIES_FULL, 0);
+    host_bits_before("a ninth link and 17 entries in a new number", many(900, 6, TOO_MANY), BATMAN_LINKS_FULL);
+    host_bits_before("a window that drops eight links, and 17 entries", many(900, 100, TOO_MANY), BATMAN_ENTRIES_FULL);
     entries_refused("a mask of 33 and 17 entries", with(many(901, 5, TOO_MANY), 0, 33), BATMAN_WRONG_MASK, TOO_MANY);
     take_entries(many(901, 5, BATMAN_ENTRIES_MOST));
-    entries_refused("a third originator and 17 entries", many(902, 5, TOO_MANY), BATMAN_ORIGINATORS_FULL, 0);
+    host_bits_before("a third originator and 17 entries", many(902, 5, TOO_MANY), BATMAN_ORIGINATORS_FULL);
 }
 
 /* 900 is heard at the table's first time and 901 later: a sweep takes the entries of the one alone, and then of both. A make empties the table too. */
@@ -1010,31 +1053,44 @@ static void entries_removed(void)
     not_found("an entry after a make", OLD);
 }
 
+/* Our next packet, with the entries of this message. */
+static struct batman_written send_entries(struct announcement a, uint8_t ttl, uint64_t time)
+{
+    return batman_own_packet(small, SMALL, 0, time, ttl, 0, 0, a.octets + BATMAN_HEADER_SIZE, a.length - BATMAN_HEADER_SIZE, output, sizeof output);
+}
+
 /* What we announce ourselves is in our packet, as many entries as it can have, and not in our table. */
 static void own_entries(void)
 {
     struct announcement a = many(US, 0, PACKET_ENTRIES_MOST);
-    size_t hna = a.length - BATMAN_HEADER_SIZE;
     begin_networks();
-    struct batman_written w = batman_own_packet(small, SMALL, 0, 9, 50, 0, 0, a.octets + BATMAN_HEADER_SIZE, hna, output, sizeof output);
+    struct batman_written w = send_entries(a, 50, 9);
     expect("an own packet with 292 entries", w.number, 0);
     expect("its length", w.length, BATMAN_PACKET_MOST);
-    expect("its entries differ", memcmp(output + BATMAN_HEADER_SIZE, a.octets + BATMAN_HEADER_SIZE, hna) != 0, 0);
+    expect("its entries differ", memcmp(output + BATMAN_HEADER_SIZE, a.octets + BATMAN_HEADER_SIZE, a.length - BATMAN_HEADER_SIZE) != 0, 0);
     not_found("one of them", dotted(10, 9, 0, 1));
 }
 
-/* A burst with 17 entries among its packets: that one is refused and the next is taken. */
-static void too_many_in_a_burst(void)
+/* A burst of three packets: the second is refused, and the third is taken. */
+static void second_refused(const char *what, struct announcement second, uint64_t number, uint64_t place)
 {
-    static const uint64_t numbers[] = {BATMAN_PASSED_ON, BATMAN_ENTRIES_FULL, BATMAN_PASSED_ON};
+    const uint64_t numbers[] = {BATMAN_PASSED_ON, number, BATMAN_PASSED_ON};
     struct burst b = no_packets();
-    struct announcement first = many(900, 5, 1), second = many(900, 6, TOO_MANY), third = many(900, 6, BATMAN_ENTRIES_MOST);
+    struct announcement first = many(900, 5, 1), third = many(900, 6, BATMAN_ENTRIES_MOST);
     begin_networks();
     add_packet(&b, HEARD_FROM, 0, first.octets, first.length);
     add_packet(&b, HEARD_FROM, 0, second.octets, second.length);
     add_packet(&b, HEARD_FROM, 0, third.octets, third.length);
-    expect("octets written of a burst with 17 entries", answered("a burst with 17 entries", &b, numbers), first.length + third.length);
+    expect("octets written of a burst with a refused packet", answered(what, &b, numbers), first.length + third.length);
+    is_refused(what, b.answers[1], number, place);
     found("the last packet's last entry", dotted(10, 9, 15, 1), 900, dotted(10, 9, 15, 0), 24);
+}
+
+static void refused_in_a_burst(void)
+{
+    second_refused("a burst with 17 entries", many(900, 6, TOO_MANY), BATMAN_ENTRIES_FULL, 0);
+    second_refused("a burst with host bits", with_host_bits(many(900, 6, 1)), BATMAN_HOST_BITS_SET, 1);
+    second_refused("a burst with a mask of 33 behind host bits", with(with_host_bits(many(900, 6, 1)), 0, 33), BATMAN_WRONG_MASK, 2);
 }
 
 /* A cell of the first record as it is poked, and whether the table is then well-formed. */
@@ -1049,15 +1105,16 @@ static void poked(const char *what, size_t cell, uint64_t value, uint64_t number
 
 static void entries_poked(void)
 {
-    const uint64_t network = (uint64_t)OLD << 8;
     begin_networks();
     take_entries(many(900, 5, BATMAN_ENTRIES_MOST));
     poked("17 entries held", ENTRIES_HELD_AT, TOO_MANY, BATMAN_NOT_WELL_FORMED);
     poked("15 entries held, and a cell behind them", ENTRIES_HELD_AT, BATMAN_ENTRIES_MOST - 1, BATMAN_NOT_WELL_FORMED);
-    poked("mask 32 in the last entry", ENTRIES_AT + BATMAN_ENTRIES_MOST - 1, network | 32, 0);
-    poked("mask 33 in the last entry", ENTRIES_AT + BATMAN_ENTRIES_MOST - 1, network | 33, BATMAN_NOT_WELL_FORMED);
-    poked("mask 255 in the first entry", ENTRIES_AT, network | 255, BATMAN_NOT_WELL_FORMED);
-    poked("the largest network", ENTRIES_AT, (uint64_t)UINT32_MAX << 8 | 32, 0);
+    poked("mask 32 in the last entry", ENTRIES_AT + BATMAN_ENTRIES_MOST - 1, entry_cell(OLD, 32), 0);
+    poked("mask 33 in the last entry", ENTRIES_AT + BATMAN_ENTRIES_MOST - 1, entry_cell(OLD, 33), BATMAN_NOT_WELL_FORMED);
+    poked("mask 255 in the first entry", ENTRIES_AT, entry_cell(OLD, 255), BATMAN_NOT_WELL_FORMED);
+    poked("the largest network", ENTRIES_AT, entry_cell(UINT32_MAX, 32), 0);
+    poked("the largest network with mask 0", ENTRIES_AT, entry_cell(UINT32_MAX, 0), 0);
+    poked("host bits in the last entry", ENTRIES_AT + BATMAN_ENTRIES_MOST - 1, entry_cell(OLD, 16), 0);
     poked("an entry of 2^40", ENTRIES_AT, (uint64_t)1 << 40, BATMAN_NOT_WELL_FORMED);
     take_entries(many(900, 6, 2));
     poked("one of three entries is zero", ENTRIES_HELD_AT, 3, 0);
@@ -1065,6 +1122,223 @@ static void entries_poked(void)
     poked("the last cell of a record", ENTRIES_AT + BATMAN_ENTRIES_MOST - 1, 1, BATMAN_NOT_WELL_FORMED);
     take_entries(many(901, 5, BATMAN_ENTRIES_MOST));
     changed_tables();
+}
+
+/* ---- host bits (16): every call that is given HNA entries refuses them alike */
+
+/* Refused with nothing changed, at a later time: neither that nor a sequence number is taken. */
+static void own_refused(const char *what, struct announcement a, uint8_t ttl, uint64_t number, uint64_t place)
+{
+    keep_all();
+    struct batman_written w = send_entries(a, ttl, small[TIME_AT] + 1);
+    expect(what, seen(w.number), number);
+    expect("its place", w.place, place);
+    expect("another field of a refusal", w.length + w.sequence, 0);
+    all_kept();
+}
+
+/* The packet check, receive, a burst and own packet answer this refusal to a message, or to its entries. */
+static void refused_by_all(const char *what, struct announcement a, uint64_t number, uint64_t place)
+{
+    uint64_t check = batman_packet_check(a.octets, a.length, defaults.version);
+    struct burst b = no_packets();
+    expect(what, batman_refusal_number(check), number);
+    expect("its place", batman_refusal_place(check), place);
+    entries_refused(what, a, number, place);
+    own_refused(what, a, 50, number, place);
+    add_packet(&b, HEARD_FROM, 0, a.octets, a.length);
+    expect("octets written of it", same_as_singly(what, &b), 0);
+    is_refused(what, b.answers[0], number, place);
+}
+
+/* All of them take an entry; 901 is the one who brings it in a burst. */
+static void taken_by_all(const char *what, uint32_t network, uint8_t mask)
+{
+    static const uint64_t numbers[] = {BATMAN_PASSED_ON};
+    struct announcement a = with(announce(900, 5), network, mask), other = with(announce(901, 5), network, mask);
+    struct burst b = no_packets();
+    begin_networks();
+    expect(what, batman_packet_check(a.octets, a.length, defaults.version), 0);
+    take_entries(a);
+    found(what, network, 900, network, mask);
+    add_packet(&b, HEARD_FROM, 0, other.octets, other.length);
+    expect("octets written of it", answered(what, &b, numbers), other.length);
+    expect(what, send_entries(a, 50, small[TIME_AT]).number, 0);
+}
+
+/* Under each mask the lowest host bit alone and the highest alone are refused, and the lowest bit of the network alone is taken. */
+static void every_mask(void)
+{
+    char what[64];
+    begin_networks();
+    for (uint8_t mask = 0; mask < 32; mask++) {
+        snprintf(what, sizeof what, "the lowest host bit of mask %d", mask);
+        refused_by_all(what, with(announce(900, 5), 1, mask), BATMAN_HOST_BITS_SET, 0);
+        snprintf(what, sizeof what, "the highest host bit of mask %d", mask);
+        refused_by_all(what, with(announce(900, 5), HIGHEST_BIT >> mask, mask), BATMAN_HOST_BITS_SET, 0);
+    }
+    for (uint8_t mask = 1; mask <= 32; mask++) {
+        snprintf(what, sizeof what, "the lowest network bit of mask %d", mask);
+        taken_by_all(what, (uint32_t)1 << (32 - mask), mask);
+    }
+    taken_by_all("mask 0 with address 0", 0, 0);
+    taken_by_all("mask 32 with the largest address", UINT32_MAX, 32);
+}
+
+/* The place is that of the first entry with host bits; a mask above 32 is given first wherever it stands, and so are octets that are no whole entries. */
+static void place_of_host_bits(void)
+{
+    struct announcement one = with_host_bits(announce(900, 5)), longer = one;
+    longer.length++;
+    begin_networks();
+    refused_by_all("host bits alone", one, BATMAN_HOST_BITS_SET, 0);
+    refused_by_all("host bits behind an entry", with_host_bits(many(900, 5, 1)), BATMAN_HOST_BITS_SET, 1);
+    refused_by_all("host bits three times", with_host_bits(with(with_host_bits(with_host_bits(many(900, 5, 2))), 0, 0)), BATMAN_HOST_BITS_SET, 2);
+    refused_by_all("host bits in the last of 292", with_host_bits(many(900, 5, PACKET_ENTRIES_MOST - 1)), BATMAN_HOST_BITS_SET, PACKET_ENTRIES_MOST - 1);
+    refused_by_all("a mask of 33 behind host bits", with(one, 0, 33), BATMAN_WRONG_MASK, 1);
+    refused_by_all("a mask of 33 before host bits", with_host_bits(with(announce(900, 5), 0, 33)), BATMAN_WRONG_MASK, 0);
+    refused_by_all("a mask of 255 under every bit", with(announce(900, 5), UINT32_MAX, 255), BATMAN_WRONG_MASK, 0);
+    refused_by_all("an octet behind host bits", longer, BATMAN_RAGGED_ENTRIES, 0);
+    own_refused("TTL 1", many(US, 0, 1), 1, BATMAN_TTL_TOO_LOW, 0);
+    own_refused("TTL 1 and host bits", one, 1, BATMAN_HOST_BITS_SET, 0);
+}
+
+/* 16 stands before 9 too: 32 rows are held, and none of the one who sends the echo. */
+static void echo_with_host_bits(void)
+{
+    struct announcement back = many(US, 65535, 2);
+    back.octets[1] = 64;
+    begin(defaults);
+    echo(HEARD_FROM + 1, HEARD_FROM + BATMAN_NEIGHBOURS_MOST);
+    host_bits_before("an echo that needs a 33rd row", back, BATMAN_NEIGHBOURS_FULL);
+}
+
+/* Host bits are refused before any verdict: also in what is not counted, or leaves the entries that are held. */
+static void no_verdict_on_host_bits(void)
+{
+    static const struct {
+        const char *what;
+        uint32_t sender, originator;
+        uint16_t number;
+        uint8_t flags;
+    } heard[] = {
+        {"host bits from an own address", US_TOO, 900, 11, 0},
+        {"host bits from a broadcast address", BROADCAST, 900, 11, 0},
+        {"host bits in an echo", HEARD_FROM, US, 65535, 64},
+        {"host bits in our own packet by another way", HEARD_FROM, US, 65535, 0},
+        {"host bits with U set", HEARD_FROM, 900, 11, 128},
+        {"host bits in a new number", HEARD_FROM, 900, 11, 0},
+        {"host bits in a number inside the window", HEARD_FROM, 900, 11 - NETWORKS_WINDOW, 0},
+        {"host bits in a duplicate", HEARD_FROM, 900, 10, 0},
+        {"host bits by a link without a row", NEIGHBOURS + 1, 900, 11, 0},
+        {"host bits in a neighbour's own message before its echo", 77, 77, 1, 0},
+    };
+    begin_with_old();
+    keep_all();
+    for (size_t i = 0; i < sizeof heard / sizeof *heard; i++) {
+        struct announcement a = with_host_bits(announce(heard[i].originator, heard[i].number));
+        a.octets[1] = heard[i].flags;
+        is_refused(heard[i].what, hear_entries(heard[i].sender, a), BATMAN_HOST_BITS_SET, 0);
+    }
+    all_kept();
+}
+
+static void host_bits(void)
+{
+    every_mask();
+    place_of_host_bits();
+    echo_with_host_bits();
+    no_verdict_on_host_bits();
+}
+
+/* ---- host bits that are held: an earlier version took such entries up, and wrote the same cells */
+
+/* Puts an entry in the place of one that 900's record holds; its record is the first. */
+static void hold(size_t place, uint32_t network, uint8_t mask) { small[BATMAN_TABLE_CELLS + ENTRIES_AT + place] = entry_cell(network, mask); }
+
+/* What 900's message with number 10 brought to an earlier version. */
+static void begin_with_held(void)
+{
+    begin_networks();
+    take_entries(with(announce(900, 10), NETWORK, NETWORK_MASK));
+    hold(0, WITH_HOST_BITS, NETWORK_MASK);
+}
+
+static void still_held(const char *what) { found(what, COVERED, 900, WITH_HOST_BITS, NETWORK_MASK); }
+
+/* No call refuses the table, and none of these touches the entry. */
+static void held_and_called(void)
+{
+    static const uint64_t numbers[] = {BATMAN_PASSED_ON};
+    struct batman_link_row row;
+    struct burst b = no_packets();
+    begin_with_held();
+    judged_alike();
+    still_held("host bits held");
+    expect("best question, host bits held", batman_best(small, SMALL, 900).route.window, NETWORKS_WINDOW);
+    expect("list, host bits held", batman_list(small, SMALL, 900, &row, 1).filled, 1);
+    expect("own packet, host bits held", send_entries(many(US, 0, 1), 50, small[TIME_AT]).number, 0);
+    take_entries(many(901, 5, 1));
+    add_message(&b, HEARD_FROM, message(901, 6, 0, 50), 12);
+    answered("burst, host bits held", &b, numbers);
+    struct batman_swept swept = batman_sweep(small, SMALL, small[TIME_AT]);
+    expect("sweep, host bits held", swept.number + swept.removed, 0);
+    still_held("host bits held through every call");
+}
+
+/* A number inside the window and a refused message leave the entry, a counted one with a new number replaces it, also by none. */
+static void held_until_replaced(void)
+{
+    begin_with_held();
+    expect("a number inside the window", hear_entries(HEARD_FROM, with(announce(900, 11 - NETWORKS_WINDOW), NETWORK, NETWORK_MASK)).number, BATMAN_PASSED_ON);
+    still_held("host bits held after a number inside the window");
+    entries_refused("the entry that is held, in a new number", with_host_bits(announce(900, 11)), BATMAN_HOST_BITS_SET, 0);
+    take_entries(with(announce(900, 11), NETWORK, NETWORK_MASK));
+    found("the network in place of one with host bits", COVERED, 900, NETWORK, NETWORK_MASK);
+    begin_with_held();
+    take_entries(announce(900, 11));
+    not_found("no entries in place of one with host bits", COVERED);
+}
+
+static void held_until_swept(void)
+{
+    begin_with_held();
+    uint64_t heard = small[TIME_AT];
+    expect("a sweep before the timeout", batman_sweep(small, SMALL, heard + defaults.purge).removed, 0);
+    still_held("host bits held until the timeout");
+    expect("the sweep after it", batman_sweep(small, SMALL, heard + defaults.purge + 1).removed, 1);
+    not_found("host bits after the sweep", COVERED);
+}
+
+/* Held host bits don't matter to what an entry covers. Of one originator's equal masks the earlier entry is found: only host bits can tell these apart. */
+static void held_and_looked_up(void)
+{
+    begin_networks();
+    take_entries(many(900, 10, 3));
+    hold(0, dotted(5, 6, 7, 8), 0);
+    hold(1, WITH_HOST_BITS + 1, NETWORK_MASK);
+    hold(2, WITH_HOST_BITS, NETWORK_MASK);
+    found("the least address", 0, 900, dotted(5, 6, 7, 8), 0);
+    found("the largest address", UINT32_MAX, 900, dotted(5, 6, 7, 8), 0);
+    found("bits below the mask, none as in the entry", dotted(10, 1, 255, 247), 900, WITH_HOST_BITS + 1, NETWORK_MASK);
+    found("the network's highest bit other", dotted(138, 1, 0, 8), 900, dotted(5, 6, 7, 8), 0);
+    found("the network's lowest bit other", dotted(10, 0, 0, 8), 900, dotted(5, 6, 7, 8), 0);
+    hold(1, WITH_HOST_BITS, NETWORK_MASK);
+    hold(2, WITH_HOST_BITS + 1, NETWORK_MASK);
+    still_held("the earlier entry is the smaller one");
+    take_entries(with(announce(901, 5), NETWORK, NETWORK_MASK));
+    still_held("the larger originator has the network without host bits");
+    hold(0, UINT32_MAX, 1);
+    found("mask 1", HIGHEST_BIT, 900, UINT32_MAX, 1);
+    not_found("mask 1, the other half", INT32_MAX);
+}
+
+static void held_host_bits(void)
+{
+    held_and_called();
+    held_until_replaced();
+    held_until_swept();
+    held_and_looked_up();
 }
 
 static void networks(void)
@@ -1083,15 +1357,17 @@ static void networks(void)
     earlier_refusals();
     entries_removed();
     own_entries();
-    too_many_in_a_burst();
+    refused_in_a_burst();
     entries_poked();
+    host_bits();
+    held_host_bits();
 }
 
-/* Every refusal and every verdict. */
+/* Every refusal, of which 16 is the largest, and every verdict. */
 static void all_came_up(void)
 {
     for (int n = BATMAN_NOT_WELL_FORMED; n <= BATMAN_PASSED_ON; n++)
-        if (n <= BATMAN_ENTRIES_FULL || n >= BATMAN_OWN_SENDER)
+        if (n <= BATMAN_HOST_BITS_SET || n >= BATMAN_OWN_SENDER)
             expect("a number that never came up", (uint64_t)(came_up[n] ? 0 : n), 0);
 }
 
@@ -1101,6 +1377,8 @@ int main(void)
     making();
     making_with_defaults();
     sending();
+    own_packets_refused(0);
+    own_packets_refused(HOST);
     asking_and_sweeping();
     verdicts();
     ties();

@@ -24,6 +24,9 @@ int main()
     batman_written own = batman_own_packet(cells.data(), cells.size(), 0, 1, 50, 0, 0, nullptr, 0, output.data(), output.size());
     right = right && own.number == 0 && own.sequence == 7;
     right = right && batman_packet_check(output.data(), own.length, settings.version) == 0;
+    std::vector<uint8_t> two_names = {4, 0, 50, 0, 0, 1, 0, 0, 0, 0, 0, 5, 10, 1, 0, 0, 16, 10, 1, 0, 7, 16}; // 10.1.0.0/16, and again with host bits
+    uint64_t fault = batman_packet_check(two_names.data(), two_names.size(), settings.version);
+    right = right && batman_refusal_number(fault) == BATMAN_HOST_BITS_SET && batman_refusal_place(fault) == 1;
     std::vector<uint8_t> echo(output.begin(), output.begin() + static_cast<long>(own.length));
     echo[1] = 64;
     batman_received heard = batman_receive(cells.data(), cells.size(), echo.data(), echo.size(), 5, 0, 2, output.data(), output.size());

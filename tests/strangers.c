@@ -112,17 +112,21 @@ struct entry {
     uint8_t mask;
 };
 
-enum { SOME_ENTRIES = BATMAN_ENTRIES_MOST + 4 };
+enum { SOME_ENTRIES = BATMAN_ENTRIES_MOST + 4, MASK_MOST = 32 };
+
+static void write_entry(uint8_t *octets, struct entry e)
+{
+    write_address(octets, e.network);
+    octets[BATMAN_ENTRY_SIZE - 1] = e.mask;
+}
 
 /* A message with these entries, its flags 0. */
 static struct batman_received hear_entries(struct node *n, uint32_t sender, uint32_t originator, uint16_t number, const struct entry *entries, size_t count)
 {
     uint8_t packet[BATMAN_HEADER_SIZE + BATMAN_ENTRY_SIZE * SOME_ENTRIES], *octets = packet + BATMAN_HEADER_SIZE;
     write_message(packet, originator, number, 0);
-    for (size_t i = 0; i < count; i++, octets += BATMAN_ENTRY_SIZE) {
-        write_address(octets, entries[i].network);
-        octets[BATMAN_ENTRY_SIZE - 1] = entries[i].mask;
-    }
+    for (size_t i = 0; i < count; i++, octets += BATMAN_ENTRY_SIZE)
+        write_entry(octets, entries[i]);
     return take(n, packet, (size_t)(octets - packet), sender);
 }
 
@@ -291,7 +295,17 @@ static void begin_with_records(void)
     remember(&us);
 }
 
-/* Any octets, or a message that is well-formed: of an own address but for our last number, of a held originator or of any, often as if from itself. */
+/* Any entry with a mask that is allowed; its host bits are 0, or as they come. */
+static struct entry random_entry(bool host_bits)
+{
+    uint8_t mask = (uint8_t)below(MASK_MOST + 1);
+    uint64_t network = random_next(&state) & UINT32_MAX;
+    unsigned cleared = host_bits ? 0 : MASK_MOST - mask;
+    return (struct entry){(uint32_t)(network >> cleared << cleared), mask};
+}
+
+/* Any octets, or a message that is well-formed but for the host bits of some: of an own address but for our last number, of a held originator or of any, often as if
+ * from itself. */
 static size_t random_packet(uint8_t *packet, uint32_t *sender)
 {
     uint32_t originators[] = {US, US_TOO, (uint32_t)(MADE_UP + below(SOME_ORIGINATORS)), (uint32_t)random_next(&state) | 1u << 31};
@@ -303,8 +317,9 @@ static size_t random_packet(uint8_t *packet, uint32_t *sender)
         return length;
     uint32_t originator = originators[below(4)];
     write_message(packet, originator, (uint16_t)(us.sent + 1 + below(UINT16_MAX)), (uint8_t)random_next(&state));
-    for (size_t i = BATMAN_HEADER_SIZE; i < BATMAN_HEADER_SIZE + BATMAN_ENTRY_SIZE * entries; i++)
-        packet[i] = (uint8_t)below(33);
+    bool host_bits = below(8) == 0;
+    for (size_t i = 0; i < entries; i++)
+        write_entry(packet + BATMAN_HEADER_SIZE + BATMAN_ENTRY_SIZE * i, random_entry(host_bits));
     if (originator != US && originator != US_TOO && below(2) == 0)
         *sender = originator;
     return BATMAN_HEADER_SIZE + BATMAN_ENTRY_SIZE * entries;
@@ -320,7 +335,7 @@ static void must_be_single_hop(const uint8_t *packet, uint32_t sender)
 
 static void nothing_changes_without_an_echo(void)
 {
-    unsigned refused = 0, passed_on = 0;
+    unsigned refused = 0, by_host_bits = 0, passed_on = 0, some = RANDOM_PACKETS / 20;
     state = random_seeded(16);
     begin_with_records();
     for (int i = 0; i < RANDOM_PACKETS; i++) {
@@ -331,12 +346,15 @@ static void nothing_changes_without_an_echo(void)
         struct batman_received r = take(&us, packet, length, sender);
         must("only the time's cell changed by a packet without an echo", only_time_differs(&us), true);
         refused += r.number < BATMAN_OWN_SENDER;
+        by_host_bits += r.number == BATMAN_HOST_BITS_SET;
         passed_on += r.number == BATMAN_PASSED_ON;
         if (r.number == BATMAN_PASSED_ON)
             must_be_single_hop(packet, sender);
     }
-    claim("no echo: %d packets of any kind from senders without a neighbour row change no cell but the time's; %u are refused, %u passed on, each as if from its originator",
-          RANDOM_PACKETS, refused, passed_on);
+    must("a twentieth of them at least is passed on", passed_on >= some, true);
+    must("a twentieth of them at least is refused by 16", by_host_bits >= some, true);
+    claim("no echo: %d packets of any kind from senders without a neighbour row change no cell but the time's; %u are refused, %u of them by 16, and %u passed on, each as if from its originator",
+          RANDOM_PACKETS, refused, by_host_bits, passed_on);
 }
 
 /* We and another node hear each other; ours has this address on the link to it. */
@@ -565,6 +583,21 @@ static void first_of_a_number_decides(void)
     claim("networks: of one number the message counted first has the list: who sends it before the originator does sets that list until the next number");
 }
 
+/* The other name is an address of the network with the same mask, so that it has host bits. The stranger sends the next number, in the originator's name or in that of
+ * an invented one. */
+static void network_has_one_name(void)
+{
+    struct entry names[] = {network(0), {NETWORKS + PRINTER, 24}};
+    begin_with_network();
+    must("the other name alone", hear_entries(&us, STRANGER, MADE_UP, 1, names + 1, 1).number, BATMAN_HOST_BITS_SET);
+    struct batman_received r = hear_entries(&us, STRANGER, ORIGINATOR, 2, names, 2);
+    must("both names", r.number, BATMAN_HOST_BITS_SET);
+    must("the place of the other one", r.place, 1);
+    must("no cell changed by them", memcmp(us.cells, us.before, sizeof us.cells) == 0, true);
+    must("the network's own name", hear_entries(&us, NEAR, ORIGINATOR, 2, names, 1).number, BATMAN_PASSED_ON);
+    claim("networks: a message that announces a network under another name, by an address of it with the same mask, alone or beside its own, is refused by 16 and changes no cell");
+}
+
 /* The stranger sends the next number, in the originator's name or in that of an invented one. */
 static void too_many_entries(void)
 {
@@ -766,6 +799,7 @@ int main(void)
     smaller_address_takes_a_network();
     forged_number_replaces_a_list();
     first_of_a_number_decides();
+    network_has_one_name();
     too_many_entries();
     neighbour_rows_are_filled();
     links_are_filled();

@@ -75,13 +75,21 @@ fn own_addresses_differ(rows: &[InterfaceRow]) -> bool {
     (0..rows.len()).all(|i| (0..i).all(|j| rows[i].own != rows[j].own))
 }
 
-/// A call turned away: its number, and the place where the number is 8.
+/// A call turned away: its number, and the place where the number is 8 or 16.
 #[derive(Clone, Copy, Debug, PartialEq)]
 pub struct Refusal {
     pub number: u64,
     pub place: u64,
-    /// Whether it came before 15, whose fact holds too; not printed.
-    pub before_15: bool,
+    /// The number of a later refusal whose fact holds too, 0 where none is noted; not printed.
+    pub hides: u64,
+}
+
+impl Refusal {
+    /// The same, noting a later one, if there is one.
+    fn before(self, later: Option<Refusal>) -> Refusal {
+        let hides = later.map_or(0, |later| later.number);
+        Refusal { hides, ..self }
+    }
 }
 
 /// A refusal without a place.
@@ -89,7 +97,7 @@ pub fn refusal(number: u64) -> Refusal {
     Refusal {
         number,
         place: 0,
-        before_15: false,
+        hides: 0,
     }
 }
 
@@ -310,11 +318,9 @@ impl Book {
             return Err(refusal(4));
         }
         packet::length_fault(length)?;
-        packet::hna_fault(&call.hna)?;
-        if call.ttl < 2 {
-            return Err(refusal(13));
-        }
-        Ok(())
+        let low_ttl = (call.ttl < 2).then(|| refusal(13));
+        packet::hna_fault(&call.hna).map_err(|fault| fault.before(low_ttl))?;
+        low_ttl.map_or(Ok(()), Err)
     }
 
     /// A sweep, refusal 1 aside: how many records it removed.
@@ -329,38 +335,47 @@ impl Book {
     }
 
     /// Receive, refusal 1 aside.
-    pub fn receive(&mut self, call: &Receive) -> Result<ReceiveAnswer, Refusal> {
+    pub fn receive(&mut self, call: &Receive) -> Judged {
         self.refuse_interface_or_time(call.interface, call.time)?;
         if call.output < call.packet.len() as u64 {
             return Err(refusal(4));
         }
-        packet::fault(self.settings.version, &call.packet)?;
+        packet::fault(self.settings.version, &call.packet)
+            .map_err(|fault| self.before_verdict(fault, call))?;
+        let answer = self.judge(call)?;
+        self.time = call.time;
+        Ok(answer)
+    }
+
+    /// A packet's fault; 16 notes what the packet is refused by if its host bits are passed over.
+    fn before_verdict(&self, fault: Refusal, call: &Receive) -> Refusal {
+        match fault.number {
+            16 => fault.before(self.clone().judge(call).err()),
+            _ => fault,
+        }
+    }
+
+    /// The five steps of receiving: the verdict with what is passed on, or refusal 9, 10, 11
+    /// or 15.
+    fn judge(&mut self, call: &Receive) -> Judged {
         let header = packet::read(&call.packet);
         let link = Link {
             neighbour: call.sender,
             interface: call.interface as u8,
         };
-        let answer = self.judge(call, &header, link)?;
-        self.time = call.time;
-        Ok(answer)
-    }
-
-    /// The five steps of receiving: the verdict with what is passed on, or refusal 9, 10, 11
-    /// or 15.
-    fn judge(&mut self, call: &Receive, header: &Header, link: Link) -> Judged {
         if self.settings.is_own(call.sender) {
-            return self.ended(20, header);
+            return self.ended(20, &header);
         }
         if self.settings.is_broadcast(call.sender) {
-            return self.ended(21, header);
+            return self.ended(21, &header);
         }
         if self.settings.is_own(header.originator) {
-            return self.echo(header, link);
+            return self.echo(&header, link);
         }
         if header.flags & UNIDIRECTIONAL != 0 {
-            return self.ended(24, header);
+            return self.ended(24, &header);
         }
-        self.count_and_pass_on(call, header, link)
+        self.count_and_pass_on(call, &header, link)
     }
 
     /// A verdict before the two questions: the best link comes with it, and nothing else.
@@ -428,17 +443,14 @@ impl Book {
         let full = self.lists.len() as u64 >= self.settings.capacity;
         let many = packet::entries_in(&call.packet) > ENTRIES_MOST;
         if full && !self.lists.contains_key(&header.originator) {
-            return Err(Refusal {
-                before_15: many,
-                ..refusal(10)
-            });
+            return Err(refusal(10).before(many_entries(many)));
         }
         let message = Counted {
             number: header.number,
             link,
             time: call.time,
             ttl: header.ttl,
-            entries: packet::entries(&call.packet[HEADER_OCTETS..]),
+            entries: packet::entries(packet::hna(&call.packet)),
         };
         let Settings { window, tie, .. } = self.settings;
         let list = self.lists.entry(header.originator).or_default();
@@ -468,14 +480,16 @@ impl Book {
 /// Refusals 11 and 15, by the words after a message is counted; `many`: it has more entries than
 /// a record keeps.
 fn no_room(words: &Words, many: bool) -> Option<Refusal> {
-    let replaces = words.moved;
+    let entries = many_entries(words.moved && many);
     if words.held.len() > LINKS_MOST {
-        return Some(Refusal {
-            before_15: replaces && many,
-            ..refusal(11)
-        });
+        return Some(refusal(11).before(entries));
     }
-    (replaces && many).then(|| refusal(15))
+    entries
+}
+
+/// Refusal 15, by its fact.
+fn many_entries(fact: bool) -> Option<Refusal> {
+    fact.then(|| refusal(15))
 }
 
 /// The copy for the receiving interface: TTL one less, U and D set anew, all else kept.

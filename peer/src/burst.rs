@@ -55,23 +55,32 @@ impl Burst {
         self.faults().sum && self.lengths.iter().fold(0, add) == self.octets.len() as u64
     }
 
-    /// The packets of a burst without a fault, in order, each with no output yet.
-    fn arrivals(&self) -> Vec<Receive> {
+    /// The packets of a burst without a fault, in order.
+    pub fn packets(&self) -> Vec<&[u8]> {
         let mut left = self.octets.as_slice();
-        let links = self.senders.iter().zip(&self.interfaces);
-        let mut arrivals = Vec::new();
-        for (length, (sender, interface)) in self.lengths.iter().zip(links) {
+        let mut packets = Vec::new();
+        for length in &self.lengths {
             let (packet, behind) = left.split_at(*length as usize);
             left = behind;
-            arrivals.push(Receive {
+            packets.push(packet);
+        }
+        packets
+    }
+
+    /// The same as single receives, each with no output yet.
+    fn arrivals(&self) -> Vec<Receive> {
+        let links = self.senders.iter().zip(&self.interfaces);
+        let packets = self.packets().into_iter();
+        packets
+            .zip(links)
+            .map(|(packet, (sender, interface))| Receive {
                 interface: *interface,
                 sender: *sender,
                 time: self.time,
                 output: 0,
                 packet: packet.to_vec(),
-            });
-        }
-        arrivals
+            })
+            .collect()
     }
 }
 

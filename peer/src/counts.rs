@@ -4,6 +4,7 @@
 use crate::book::{Judged, ReceiveAnswer, Refusal, NEWEST_WINS};
 use crate::burst::{written, Burst, Faults};
 use crate::lookup::{located, Covering};
+use crate::packet::{self, Entry};
 use crate::words::Link;
 use std::collections::BTreeMap;
 
@@ -28,16 +29,30 @@ pub const FOUND: &str = "lookup-found";
 pub const NONE: &str = "lookup-none";
 /// Another originator's entry has an equal mask and covers the address, too.
 pub const ORIGINATOR: &str = "lookup-originator";
-/// So does an entry of the same list that differs, below the mask.
-pub const ENTRY: &str = "lookup-entry";
 /// A counted message with more entries than a record keeps left the list as it was.
 pub const LEFT: &str = "entries-left";
-/// Refusal 10, or 11, was given to a message for which 15's fact holds too.
-pub const TEN_FIRST: &str = "entries-10";
-pub const ELEVEN_FIRST: &str = "entries-11";
+/// Refusal 8 was given where an earlier entry has host bits.
+pub const BITS_EARLIER: &str = "bits-earlier";
+/// Refusal 16 was given for an entry whose only host bit is the highest one, or of mask 0.
+pub const BITS_HIGHEST: &str = "bits-highest";
+pub const BITS_MASK_0: &str = "bits-mask-0";
+/// A packet was not refused that has an entry whose lowest network bit is set, or of mask 0.
+pub const CLEAN_LOWEST: &str = "clean-lowest";
+pub const CLEAN_MASK_0: &str = "clean-mask-0";
 
-/// Every word that is counted.
-pub const WORDS: [&str; 17] = [
+/// Refusals that hide a later one, and the word for each two.
+const HIDING: [(u64, u64, &str); 7] = [
+    (10, 15, "10-15"),
+    (11, 15, "11-15"),
+    (16, 9, "16-9"),
+    (16, 10, "16-10"),
+    (16, 11, "16-11"),
+    (16, 13, "16-13"),
+    (16, 15, "16-15"),
+];
+
+/// Every other word that is counted.
+const WORDS: [&str; 19] = [
     NEWEST,
     STAYS,
     LISTS,
@@ -51,11 +66,18 @@ pub const WORDS: [&str; 17] = [
     FOUND,
     NONE,
     ORIGINATOR,
-    ENTRY,
     LEFT,
-    TEN_FIRST,
-    ELEVEN_FIRST,
+    BITS_EARLIER,
+    BITS_HIGHEST,
+    BITS_MASK_0,
+    CLEAN_LOWEST,
+    CLEAN_MASK_0,
 ];
+
+pub fn every_word() -> impl Iterator<Item = &'static str> {
+    let hiding = HIDING.into_iter().map(|(_, _, word)| word);
+    WORDS.into_iter().chain(hiding)
+}
 
 #[derive(Default)]
 pub struct Counts {
@@ -69,8 +91,7 @@ impl Counts {
 
     /// A line for each word: the word and its number.
     pub fn lines(&self) -> String {
-        WORDS
-            .iter()
+        every_word()
             .map(|word| format!("{word} {}\n", self.of(word)))
             .collect()
     }
@@ -79,13 +100,47 @@ impl Counts {
         *self.met.entry(word).or_default() += u64::from(met);
     }
 
-    /// A packet that was refused.
-    pub fn packet_refused(&mut self, refusal: &Refusal) {
-        self.add(TEN_FIRST, refusal.before_15 && refusal.number == 10);
-        self.add(ELEVEN_FIRST, refusal.before_15 && refusal.number == 11);
+    /// The HNA octets of a packet that came, was sent or checked, and what it was refused by.
+    pub fn packet(&mut self, hna: &[u8], refusal: Option<&Refusal>) {
+        match refusal {
+            None => self.packet_clean(&packet::entries(hna)),
+            Some(refusal) => self.packet_refused(hna, refusal),
+        }
     }
 
-    /// A packet that was not refused, under this tie setting.
+    /// The entries of one that was not refused.
+    fn packet_clean(&mut self, entries: &[Entry]) {
+        let lowest = |entry: &Entry| entry.network & packet::lowest_network_bit(entry.mask) != 0;
+        self.add(CLEAN_LOWEST, entries.iter().any(lowest));
+        self.add(CLEAN_MASK_0, entries.iter().any(|entry| entry.mask == 0));
+    }
+
+    fn packet_refused(&mut self, hna: &[u8], refusal: &Refusal) {
+        for (number, later, word) in HIDING {
+            self.add(word, (refusal.number, refusal.hides) == (number, later));
+        }
+        let place = refusal.place as usize;
+        match refusal.number {
+            8 => self.bits_before(&packet::entries(hna)[..place]),
+            16 => self.bits_of(packet::entries(hna)[place]),
+            _ => {}
+        }
+    }
+
+    /// The entries before a mask above 32.
+    fn bits_before(&mut self, entries: &[Entry]) {
+        let bits = |entry: &Entry| entry.host_bits() != 0;
+        self.add(BITS_EARLIER, entries.iter().any(bits));
+    }
+
+    /// The entry that refusal 16 names.
+    fn bits_of(&mut self, entry: Entry) {
+        let highest = packet::highest_host_bit(entry.mask);
+        self.add(BITS_HIGHEST, entry.host_bits() == highest);
+        self.add(BITS_MASK_0, entry.mask == 0);
+    }
+
+    /// A received packet that was not refused, under this tie setting.
     pub fn answered(&mut self, answer: &ReceiveAnswer, tie: u64) {
         let word = if tie == NEWEST_WINS { NEWEST } else { STAYS };
         self.add(word, answer.tied);
@@ -98,13 +153,10 @@ impl Counts {
             return self.add(NONE, true);
         };
         self.add(FOUND, true);
-        let level = |other: &&Covering| other.entry.mask == found.entry.mask;
-        let (own, others): (Vec<&Covering>, Vec<&Covering>) = covering
-            .iter()
-            .filter(level)
-            .partition(|other| other.originator == found.originator);
-        self.add(ORIGINATOR, !others.is_empty());
-        self.add(ENTRY, own.iter().any(|other| other.entry != found.entry));
+        let level = |other: &Covering| {
+            other.entry.mask == found.entry.mask && other.originator != found.originator
+        };
+        self.add(ORIGINATOR, covering.iter().any(level));
     }
 
     /// A burst that was refused by 14.

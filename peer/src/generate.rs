@@ -252,7 +252,7 @@ impl Generator<'_> {
                 _ => self.message_by_row(),
             };
         }
-        if self.stage.kind == Kind::Links && self.random.chance(100) {
+        if self.stage.kind == Kind::Links && self.random.chance(150) {
             return self.one_link_more();
         }
         if self.stage.kind == Kind::Entries && self.random.chance(600) {

@@ -1,7 +1,7 @@
 //! Turns captured packets (lines `sender hex`) into a script.
 
 use crate::cells::cells_needed;
-use crate::packet::{entries, fault, HEADER_OCTETS};
+use crate::packet::{entries, fault, hna};
 use crate::script::{self, OCTETS_MOST};
 use std::io::{self, Write};
 
@@ -56,6 +56,6 @@ fn networks(version: u8, hex: &str) -> Vec<u32> {
     if fault(u64::from(version), &octets).is_err() {
         return Vec::new();
     }
-    let announced = entries(&octets[HEADER_OCTETS..]);
+    let announced = entries(hna(&octets));
     announced.iter().map(|entry| entry.network).collect()
 }

@@ -21,7 +21,7 @@ pub struct Header {
     pub originator: u32,
 }
 
-/// An HNA entry: a network as it was announced, whatever its bits below the mask.
+/// An HNA entry: a network as it was announced.
 #[derive(Clone, Copy, Debug, PartialEq)]
 pub struct Entry {
     pub network: u32,
@@ -31,12 +31,43 @@ pub struct Entry {
 impl Entry {
     /// Whether the network and an address agree in as many leading bits as the mask says.
     pub fn covers(&self, address: u32) -> bool {
-        // In 64 bits all 32 can be shifted out, as mask 0 does.
-        u64::from(self.network ^ address) >> (MASK_MOST - self.mask) == 0
+        (self.network ^ address) & !host_bits(self.mask) == 0
+    }
+
+    /// The host bits that are set.
+    pub fn host_bits(&self) -> u32 {
+        self.network & host_bits(self.mask)
+    }
+
+    /// The five octets on the air.
+    pub fn octets(&self) -> [u8; HNA_OCTETS] {
+        let [a, b, c, d] = self.network.to_be_bytes();
+        [a, b, c, d, self.mask]
     }
 }
 
-/// Reads HNA octets that have no fault: each entry, in packet order.
+/// The host bits of a mask: all address bits below it, none where it is 32 or more.
+pub fn host_bits(mask: u8) -> u32 {
+    // In 64 bits there is one above all 32, which mask 0 needs.
+    ((1_u64 << MASK_MOST.saturating_sub(mask)) - 1) as u32
+}
+
+/// The highest of them, 0 where there are none.
+pub fn highest_host_bit(mask: u8) -> u32 {
+    host_bits(mask) ^ host_bits(mask) >> 1
+}
+
+/// The bit above them, 0 where mask 0 leaves none.
+pub fn lowest_network_bit(mask: u8) -> u32 {
+    host_bits(mask).wrapping_add(1)
+}
+
+/// The HNA octets of a packet; none where it is shorter than a header.
+pub fn hna(packet: &[u8]) -> &[u8] {
+    packet.get(HEADER_OCTETS..).unwrap_or_default()
+}
+
+/// Reads HNA octets that are a multiple of 5: each entry, in packet order.
 pub fn entries(hna: &[u8]) -> Vec<Entry> {
     hna.chunks(HNA_OCTETS)
         .map(|octets| Entry {
@@ -80,13 +111,13 @@ pub fn write(header: &Header, hna: &[u8]) -> Vec<u8> {
     octets
 }
 
-/// Refusals 5 to 8 of a packet. A version above 255 equals that of no packet.
+/// Refusals 5 to 8 and 16 of a packet. A version above 255 equals that of no packet.
 pub fn fault(version: u64, packet: &[u8]) -> Result<(), Refusal> {
     length_fault(packet.len())?;
     if u64::from(packet[0]) != version {
         return Err(refusal(6));
     }
-    hna_fault(&packet[HEADER_OCTETS..])
+    hna_fault(hna(packet))
 }
 
 /// Refusal 5, by the packet's length.
@@ -97,16 +128,31 @@ pub fn length_fault(length: usize) -> Result<(), Refusal> {
     Ok(())
 }
 
-/// Refusals 7 and 8, of the HNA octets.
+/// Refusals 7, 8 and 16, of the HNA octets.
 pub fn hna_fault(hna: &[u8]) -> Result<(), Refusal> {
     if hna.len() % HNA_OCTETS != 0 {
         return Err(refusal(7));
     }
-    let bad = |entry: &[u8]| entry[HNA_OCTETS - 1] > MASK_MOST;
-    match hna.chunks(HNA_OCTETS).position(bad) {
+    let entries = entries(hna);
+    // The wrong copy "hostbits" asks entry by entry: host bits hide a mask above 32 behind them.
+    if cfg!(wrong = "hostbits") {
+        (1..=entries.len()).try_for_each(|end| entries_fault(&entries[..end]))?;
+    }
+    entries_fault(&entries)
+}
+
+/// Refusals 8 and 16: whatever the places, 16 is asked only where all masks are allowed.
+fn entries_fault(entries: &[Entry]) -> Result<(), Refusal> {
+    refuse_first(8, entries, |entry| entry.mask > MASK_MOST)?;
+    refuse_first(16, entries, |entry| entry.host_bits() != 0)
+}
+
+/// A refusal that carries the place of the first entry that breaks a rule.
+fn refuse_first(number: u64, entries: &[Entry], breaks: fn(&Entry) -> bool) -> Result<(), Refusal> {
+    match entries.iter().position(breaks) {
         Some(place) => Err(Refusal {
             place: place as u64,
-            ..refusal(8)
+            ..refusal(number)
         }),
         None => Ok(()),
     }

@@ -113,7 +113,7 @@ impl Player {
             Call::Best { originator } => self.best(*originator, out)?,
             Call::List { originator, rows } => self.list(*originator, *rows, out)?,
             Call::Lookup { address } => self.lookup(*address, out)?,
-            Call::Check { version, packet } => check(*version, packet, out),
+            Call::Check { version, packet } => self.check(*version, packet, out),
             Call::Poke { index, value } => self.poke(*index, *value),
             Call::Dump => self.dump(out),
         }
@@ -163,7 +163,7 @@ impl Player {
 
     fn receive(&mut self, arrival: &Receive, out: &mut Vec<u8>) -> Result<(), OutsideBook> {
         let judged = self.table()?.and_then(|book| book.receive(arrival));
-        self.packet_answered(&judged);
+        self.packet_answered(&arrival.packet, &judged);
         say(out, b"receive", &packet_fields(&judged));
         say_octets(out, copy(&judged));
         end(out);
@@ -171,10 +171,9 @@ impl Player {
     }
 
     /// A packet was answered: the buffer and the counts follow.
-    fn packet_answered(&mut self, judged: &Judged) {
-        if let Err(refusal) = judged {
-            self.counts.packet_refused(refusal);
-        }
+    fn packet_answered(&mut self, octets: &[u8], judged: &Judged) {
+        self.counts
+            .packet(packet::hna(octets), judged.as_ref().err());
         if let (Ok(answer), Some(book)) = (judged, &self.book) {
             self.counts.answered(answer, book.settings.tie);
             self.changed();
@@ -194,8 +193,8 @@ impl Player {
             }
             Ok(answers) => {
                 self.counts.taken(burst, &answers, time);
-                for judged in &answers {
-                    self.packet_answered(judged);
+                for (octets, judged) in burst.packets().into_iter().zip(&answers) {
+                    self.packet_answered(octets, judged);
                 }
                 say_burst(out, &answers);
             }
@@ -204,7 +203,9 @@ impl Player {
     }
 
     fn own(&mut self, own: &Own, out: &mut Vec<u8>) -> Result<(), OutsideBook> {
-        match self.table()?.and_then(|book| book.own(own)) {
+        let sent = self.table()?.and_then(|book| book.own(own));
+        self.counts.packet(&own.hna, sent.as_ref().err());
+        match sent {
             Err(refusal) => {
                 say(out, b"own", &[refusal.number, refusal.place, 0, 0]);
                 say_octets(out, &[]);
@@ -273,15 +274,14 @@ impl Player {
         end(out);
         Ok(())
     }
-}
 
-fn check(version: u64, octets: &[u8], out: &mut Vec<u8>) {
-    let number = match packet::fault(version, octets) {
-        Ok(()) => 0,
-        Err(refusal) => refusal.number + 256 * refusal.place,
-    };
-    say(out, b"check", &[number]);
-    end(out);
+    fn check(&mut self, version: u64, octets: &[u8], out: &mut Vec<u8>) {
+        let fault = packet::fault(version, octets).err();
+        self.counts.packet(packet::hna(octets), fault.as_ref());
+        let number = fault.map_or(0, |refusal| refusal.number + 256 * refusal.place);
+        say(out, b"check", &[number]);
+        end(out);
+    }
 }
 
 /// The lines of a burst that was taken.

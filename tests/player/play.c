@@ -45,7 +45,8 @@ static void lists_kept(const struct player *p, const struct burst_lists *l)
     expect(p, is_copy(&p->interfaces, l->interfaces), "an interface, or an octet beside the lent ones, has changed");
 }
 
-static bool is_refusal(uint64_t number) { return number >= BATMAN_NOT_WELL_FORMED && number <= BATMAN_ENTRIES_FULL; }
+/* 16 is the largest of them, though not the last in order. */
+static bool is_refusal(uint64_t number) { return number >= BATMAN_NOT_WELL_FORMED && number <= BATMAN_HOST_BITS_SET; }
 
 /* The cells as the call left them; a refused one leaves them as they were. */
 static void take_cells(struct player *p, uint64_t number)

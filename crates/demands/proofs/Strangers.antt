@@ -11,7 +11,7 @@ use lib.Seq.{set-getD}
 use native.Mathlib.Omega.{arith}
 use native.Mathlib.Nat.{mod-eq-of-lt}
 use borrow.Author.Tests.{ltb-true, eqb-true, eqb-false, ne-eqb, not-true}
-use Rattle.lists.specs.Lists.{maybe, and}
+use Rattle.lists.specs.Lists.{maybe, and, all}
 use Rattle.lists.specs.Keyed.{lookup, put}
 use Rattle.lists.proofs.Tests.{by-test, and-left, and-right, and-at, all-at}
 use Rattle.lists.proofs.Keyed.{lookup-put, lookup-put-other, lookup-all}
@@ -20,8 +20,10 @@ use Rattle.window.specs.Window.{numbers, inside}
 use Rattle.wire.specs.declared.Header.{Header}
 use Rattle.wire.specs.declared.Fault.{Fault}
 use Rattle.wire.specs.Layout.{sequenceAt}
-use Rattle.wire.specs.Packet.{octet, header}
+use Rattle.wire.specs.Packet.{octet, header, hna}
 use Rattle.wire.specs.Check.{firstOf}
+use Rattle.wire.specs.Entries.{isClean, entriesOf}
+use Rattle.wire.proofs.Entries.{all-clean}
 use Rattle.rules.specs.Settings.{Config, octets, isOctet}
 use Rattle.rules.specs.Messages.{Message}
 use Rattle.rules.specs.Calls.{ReceiveArgs, receive, numberOf, isRefusal}
@@ -30,6 +32,7 @@ use Rattle.rules.specs.Table.{TableRecord, TableState, firstRecord, nextRecord,
 use Rattle.rules.specs.Refusals.{Questions, found, questions, countedRecord, foreign, wouldEcho, wouldCount, stateThen, verdictThen, facts, outcome, Exactly}
 use Rattle.rules.specs.WellFormed.{recordTests, receiveTypes, typed}
 use Rattle.rules.specs.WellFormed as R
+use Rattle.rules.proofs.Faults.{none-at, hna-none}
 use Rattle.rules.proofs.Exactly.{exactly}
 use Rattle.rules.proofs.Parts.{Entry, record-parts}
 use Rattle.rules.proofs.WellFormed.{Wf, parts, wellFormed-step}
@@ -239,6 +242,7 @@ module _ (c : List ℕ) (r : ReceiveArgs) where
         marks = λ o l n _ _ g. ap (λ (d : List ℕ). isMarkedIn d o l n) (sym same) ∙ g;
         keptEntries = λ _. rw same;
         entries = λ o. inl (rw same);
+        clean = λ o d. absurd (d (rw same));
       }
     where
       untimed : OnlyTime c (left c r)
@@ -268,7 +272,7 @@ module _ (c : List ℕ) (r : ReceiveArgs) where
     refuses f e = unchanged not-one (ap (λ (d : Done). d .cells) (goes _ (rules .refused f e)) ∙ laws .cells c good)
 
     takes : firstOf (facts table (length c) before (receive r)) ≡ none → Strangers c r
-    unfolding decode outcome
+    unfolding decode outcome facts
     takes n =
         let q = questions table before r (said r) in
         let y = stateThen table before r (said r) q in
@@ -279,6 +283,9 @@ module _ (c : List ℕ) (r : ReceiveArgs) where
         let v : number c r ≡ verdictThen table before r (said r) q = ap (λ (d : Done). numberOf (d .reply .answer)) on in
         let timed : y ≡ withTime table before (r .time) → OnlyTime c (left c r) = λ f. (r .time, into ∙ ap encode f ∙ time-set before (r .time) ∙ ap (λ (d : List ℕ). set d timeAt (r .time)) (laws .cells c good)) in
         let rows : (wouldEcho table before r (said r) q ≡ true → ⊥) → decode (left c r) .rows ≡ before .rows = λ f. ap (λ (z : TableState). z .rows) e ∙ rows-same before w r t f in
+        let own : (o : ℕ) → OwnOrKept before w r t o (decode (left c r) .records) = λ o. subst (λ (z : TableState). OwnOrKept before w r t o (z .records)) (sym e) (entries-own before w r t o) in
+        let none-set = hna-none (before .config .settings .version) (r .packet) (none-at (facts table (length c) before (receive r)) n 3) in
+        let its : all isClean (entriesOf (hna (r .packet))) ≡ true = all-clean (hna (r .packet)) (none-set 1) (none-set 2) in
         record {
           unformed = not-one;
           turnedAway = λ g. absurd (true≢false (sym g ∙ ap isRefusal v ∙ rules .noRefusal));
@@ -293,7 +300,8 @@ module _ (c : List ℕ) (r : ReceiveArgs) where
           others = λ o f. ap (λ (z : TableState). lookup o (z .records)) e ∙ others-same before w r t o f;
           marks = λ o l m small f g. marks-before before w r t o l m small f (ap (λ (z : TableState). markedOf z o l m) (sym e) ∙ g);
           keptEntries = λ g. ap (λ (z : TableState). entriesOfRecord (lookup (said r .originator) (z .records))) e ∙ entries-kept before w r t g;
-          entries = λ o. subst (λ (z : TableState). OwnOrKept before w r t o (z .records)) (sym e) (entries-own before w r t o);
+          entries = own;
+          clean = λ o d. ⊎-elim (λ same. absurd (d same)) (λ mine. ap (λ (es : Option (List ℕ)). maybe es true (all isClean)) (mine .1) ∙ its) (own o);
         }
 
     formed : Strangers c r

@@ -62,7 +62,7 @@ lentAnswers (locate a) = []
 module _ (c : List ℕ) (call : Call) where
   -- refused by f
   pub record Refused (f : Fault) : Type 0 where
-    -- it answers the number of f, one of 1 to 15; every other field is 0, but the place for 8
+    -- it answers the number of f, one of 1 to 16; every other field is 0, but the place for 8 and 16
     pub number : numberOf (callOn c call .reply .answer) ≡ f .number
     pub among : isRefusal (f .number) ≡ true
     pub reply : callOn c call .reply ≡ refusal call f
@@ -72,7 +72,7 @@ module _ (c : List ℕ) (call : Call) where
     pub answers : callOn c call .reply .answers ≡ lentAnswers call
     pub cells : callOn c call .cells ≡ c
 
-  -- not refused: the rules' reply, and in the cells the table that they leave; the number answered is none of 1 to 15
+  -- not refused: the rules' reply, and in the cells the table that they leave; the number answered is none of 1 to 16
   pub record Accepted : Type 0 where
     pub reply : callOn c call .reply ≡ outcomeOn c call .reply
     pub cells : callOn c call .cells ≡ encode (outcomeOn c call .state)

@@ -8,12 +8,12 @@ use mathlib.Core.Bool.{Bool, true, false}
 use mathlib.Core.Option.{Option, some, Option·map}
 use mathlib.Core.List.{List}
 use lib.ListN.{set}
-use Rattle.lists.specs.Lists.{maybe}
+use Rattle.lists.specs.Lists.{maybe, all}
 use Rattle.lists.specs.Keyed.{lookup, hasKey}
 use Rattle.window.specs.Window.{numbers, inside}
 use Rattle.wire.specs.declared.Header.{Header}
 use Rattle.wire.specs.Packet.{header, hna}
-use Rattle.wire.specs.Entries.{entriesOf}
+use Rattle.wire.specs.Entries.{isClean, entriesOf}
 use Rattle.rules.specs.Calls.{ReceiveArgs, receive, numberOf, isRefusal}
 use Rattle.rules.specs.Rules.{linkBy, isEcho}
 use Rattle.rules.specs.Table.{isMarked}
@@ -77,3 +77,5 @@ module _ (c : List ℕ) (r : ReceiveArgs) where
     pub keptEntries : isInsideIn c (said r .originator) (said r .sequence) ≡ true → entriesIn left (said r .originator) ≡ entriesIn c (said r .originator)
     -- and no packet puts entries into a record but its own, all of them, into its originator's
     pub entries : (o : ℕ) → (entriesIn left o ≡ entriesIn c o) ⊎ ((o ≡ said r .originator) × (entriesIn left o ≡ some (entriesOf (hna (r .packet)))))
+    -- nor any with host bits: where a record's entries have changed, none has (RULES 3.5)
+    pub clean : (o : ℕ) → (entriesIn left o ≡ entriesIn c o → ⊥) → maybe (entriesIn left o) true (all isClean) ≡ true

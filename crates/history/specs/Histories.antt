@@ -6,7 +6,7 @@ use Rattle.rules.specs.declared.Settings.{Settings}
 use Rattle.rules.specs.Settings.{newestWins, presentStays, cellsNeeded}
 use Rattle.rules.specs.Calls.{Call, make, sweep, question, list, locate}
 use Rattle.rules.specs.Rules.{Reading, fresh}
-use Rattle.rules.specs.Examples.{address, settingsBy, settings, config, packet, hearAll, hear, write, played, nowhere, via, heard, unheard, wrote, total, bundled, told, joined}
+use Rattle.rules.specs.Examples.{address, settingsBy, settings, config, packet, hearAll, hear, write, played, nowhere, via, heard, unheard, wrote, unwritten, total, bundled, told, joined}
 use Rattle.rules.specs.Edges.{makeArgs, upFrom, blank}
 
 pub record History : Type 0 where
@@ -115,14 +115,14 @@ histories =
     ∷ history (settings 8 32 64)
     (send ∷ echo 20 1 ∷ announce 20 900 10 (entry 10 1 0 0 16 ∷ []) ∷ announce 20 900 10 (entry 10 2 0 0 16 ∷ []) ∷ announce 40 900 11 (entry 10 2 0 0 16 ∷ []) ∷ locate (address 10 1 0 7) ∷ locate (address 10 2 0 7) ∷ [])
     (wrote 12 1 ∷ echoTaken ∷ heard 26 0 (via 20 1) ∷ heard 26 0 (via 20 1) ∷ heard 25 0 (via 20 1) ∷ serves 900 10 1 0 0 16 ∷ noneCovers ∷ [])
-    -- a lookup goes by the longest mask, of equal masks by the smaller originator, then the earlier entry; bits of the network below the mask don't matter
+    -- a lookup goes by the longest mask, of equal masks by the smaller originator; an entry may stand in the list twice
     ∷ history (settings 8 32 64)
-    (send ∷ echo 20 1 ∷ locate 0 ∷ announce 20 901 10 (entry 10 9 0 0 8 ∷ entry 10 1 0 0 24 ∷ entry 10 1 0 7 32 ∷ []) ∷ announce 20 900 10 (entry 10 0 0 0 8 ∷ entry 10 1 9 9 16 ∷ entry 10 1 8 8 16 ∷ []) ∷ locate (address 10 1 0 7) ∷ locate (address 10 1 0 6) ∷ locate (address 10 1 1 7) ∷ locate (address 10 2 0 7) ∷ locate (address 11 0 0 0) ∷ locate 0 ∷ [])
-    (wrote 12 1 ∷ echoTaken ∷ noneCovers ∷ heard 26 0 (via 20 1) ∷ heard 26 0 (via 20 1) ∷ serves 901 10 1 0 7 32 ∷ serves 901 10 1 0 0 24 ∷ serves 900 10 1 9 9 16 ∷ serves 900 10 0 0 0 8 ∷ noneCovers ∷ noneCovers ∷ [])
+    (send ∷ echo 20 1 ∷ locate 0 ∷ announce 20 901 10 (entry 10 0 0 0 8 ∷ entry 10 1 0 0 24 ∷ entry 10 1 0 7 32 ∷ []) ∷ announce 20 900 10 (entry 10 0 0 0 8 ∷ entry 10 1 0 0 16 ∷ entry 10 1 0 0 16 ∷ []) ∷ locate (address 10 1 0 7) ∷ locate (address 10 1 0 6) ∷ locate (address 10 1 1 7) ∷ locate (address 10 2 0 7) ∷ locate (address 11 0 0 0) ∷ locate 0 ∷ [])
+    (wrote 12 1 ∷ echoTaken ∷ noneCovers ∷ heard 26 0 (via 20 1) ∷ heard 26 0 (via 20 1) ∷ serves 901 10 1 0 7 32 ∷ serves 901 10 1 0 0 24 ∷ serves 900 10 1 0 0 16 ∷ serves 900 10 0 0 0 8 ∷ noneCovers ∷ noneCovers ∷ [])
     -- mask 0 covers every address, 0 among them
     ∷ history (settings 8 32 64)
-    (send ∷ echo 20 1 ∷ announce 20 900 10 (entry 0 0 0 0 32 ∷ entry 10 1 0 7 0 ∷ []) ∷ locate 0 ∷ locate 1 ∷ locate (address 255 255 255 255) ∷ [])
-    (wrote 12 1 ∷ echoTaken ∷ heard 26 0 (via 20 1) ∷ serves 900 0 0 0 0 32 ∷ serves 900 10 1 0 7 0 ∷ serves 900 10 1 0 7 0 ∷ [])
+    (send ∷ echo 20 1 ∷ announce 20 900 10 (entry 0 0 0 0 32 ∷ entry 0 0 0 0 0 ∷ []) ∷ locate 0 ∷ locate 1 ∷ locate (address 255 255 255 255) ∷ [])
+    (wrote 12 1 ∷ echoTaken ∷ heard 26 0 (via 20 1) ∷ serves 900 0 0 0 0 32 ∷ serves 900 0 0 0 0 0 ∷ serves 900 0 0 0 0 0 ∷ [])
     -- a sweep removes the entries with their record, a make all of them
     ∷ history (settings 8 32 64)
     (send ∷ echo 20 1 ∷ announce 20 900 10 (entry 10 1 0 0 16 ∷ []) ∷ sweep 640000 ∷ locate (address 10 1 0 7) ∷ sweep 640001 ∷ locate (address 10 1 0 7) ∷ [])
@@ -135,7 +135,13 @@ histories =
     ∷ history (settings 8 32 64)
     (send ∷ echo 20 1 ∷ announce 20 900 10 (lastOf 16) ∷ question 900 ∷ locate (address 10 1 0 7) ∷ announce 20 900 10 (lastOf 15) ∷ locate (address 10 1 0 7) ∷ announce 20 900 11 (lastOf 16) ∷ question 900 ∷ announce 20 900 9 (replicate 17 (entry 10 1 0 0 24)) ∷ announce 20 900 9 (lastOf 16) ∷ announce 40 900 11 (lastOf 16) ∷ locate (address 10 1 0 7) ∷ question 900 ∷ [])
     (wrote 12 1 ∷ echoTaken ∷ unheard 15 0 ∷ told nowhere ∷ noneCovers ∷ heard 26 0 (via 20 1) ∷ serves 900 10 1 0 0 16 ∷ unheard 15 0 ∷ told (via 20 1) ∷ heard 26 0 (via 20 2) ∷ heard 26 0 (via 20 2) ∷ heard 25 0 (via 20 2) ∷ serves 900 10 1 0 0 16 ∷ told (via 20 2) ∷ [])
-    -- it comes after 10, where capacity is 1, and after 11, where the links by way of 20 to 27 have marks and that of 28 would be the ninth
+    -- 16: a host bit in an OGM that would make the record, has a new number, is inside the window or is a duplicate; nothing changes; then one without
+    ∷ history (settings 8 32 64)
+    (send ∷ echo 20 1 ∷ announce 20 900 10 (entry 10 1 0 0 16 ∷ entry 10 1 0 7 16 ∷ []) ∷ question 900 ∷ announce 20 900 10 (entry 10 1 0 0 16 ∷ []) ∷ announce 20 900 11 (entry 10 2 0 7 16 ∷ []) ∷ announce 20 900 9 (entry 10 2 0 7 16 ∷ []) ∷ announce 20 900 10 (entry 10 2 0 7 16 ∷ []) ∷ question 900 ∷ locate (address 10 1 0 7) ∷ locate (address 10 2 0 7) ∷ [])
+    (wrote 12 1 ∷ echoTaken ∷ unheard 16 1 ∷ told nowhere ∷ heard 26 0 (via 20 1) ∷ unheard 16 0 ∷ unheard 16 0 ∷ unheard 16 0 ∷ told (via 20 1) ∷ serves 900 10 1 0 0 16 ∷ noneCovers ∷ [])
+    -- of our own packets: the number is not used up
+    ∷ history (settings 8 32 64) (send ∷ write 0 0 50 17 (entry 10 1 0 7 16) ∷ write 0 0 50 17 (entry 10 1 0 0 16) ∷ []) (wrote 12 1 ∷ unwritten 16 0 ∷ wrote 17 2 ∷ [])
+    -- 15 comes after 10, where capacity is 1, and after 11, where the links by way of 20 to 27 have marks and that of 28 would be the ninth
     ∷ history (settings 8 32 1)
     (send ∷ echo 20 1 ∷ announce 20 900 10 [] ∷ announce 20 901 10 (lastOf 16) ∷ [])
     (wrote 12 1 ∷ echoTaken ∷ heard 26 0 (via 20 1) ∷ unheard 10 0 ∷ [])

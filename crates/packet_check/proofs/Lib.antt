@@ -1,2 +1,4 @@
--- The steps of the search for a bad mask.
-pub mod Masks
+-- The search for an entry that breaks a rule, host bits by a shift, and the refusals of a whole packet.
+pub mod Search
+pub mod HostBits
+pub mod Packets

@@ -14,8 +14,8 @@ use Rattle.lists.proofs.Tests.{and-left, and-right, both}
 use Rattle.window.specs.Window.{distance, inside, advance, bit, shift, mark, word}
 use Rattle.wire.specs.declared.Header.{Header}
 use Rattle.wire.specs.Layout.{entrySize, maskAt, maskMost}
-use Rattle.wire.specs.Packet.{header, headerOctets, packetOf, isU, isD, unnamed}
-use Rattle.wire.specs.Check.{mask, firstWhere, firstBadMask, hnaFault, packetFault, writtenFault, packetCheck}
+use Rattle.wire.specs.Packet.{octet, header, headerOctets, packetOf, isU, isD, unnamed}
+use Rattle.wire.specs.Check.{network, mask, hostBits, firstWhere, firstBreaking, hnaFault, packetFault, writtenFault, packetCheck}
 use Rattle.wire.specs.Entries.{entryOf, networkOf, maskOf, entryAt, entriesOf}
 use Rattle.wire.specs.PassOn.{flagsHere, flagsElsewhere, passedOn}
 use Rattle.wire.proofs.Laws.{reads-back, allowed as allowed-written}
@@ -56,19 +56,23 @@ answers r = reply (r .poses)
 abbrev says : Row → List ℕ
 says r = r .says
 
--- a packet of 1,472 octets is accepted, by the laws: its 292 masks would take long to compute
+-- a packet of 1,472 octets is accepted, by the laws: its 292 entries would take long to compute
 longest : right answers says (row (checked 4 (replicate 1460 0)) (0 ∷ [])) ≡ true
 unfolding packetCheck packetOf headerOctets
 longest =
     let e : List ℕ = replicate 1460 0 in
     let h : Header = record { version = 4; flags = 0; ttl = 0; gateway = 0; sequence = 0; port = 0; originator = 0 } in
-    let masks : (k : ℕ) → k < 292 → mask e k ≤ maskMost = λ k l. let z : mask e k ≡ 0 = getD-replicate 1460 (entrySize * k + maskAt) 0 0 (omega arith) in rw z (omega arith) in
-    let none-found : packetFault 4 (packetOf h e) ≡ none = reads-back h e .check ∙ allowed-written e (record { few = omega arith; whole = refl; masks = masks }) in
+    let zero-at : (i : ℕ) → i < 1460 → octet e i ≡ 0 = λ i l. getD-replicate 1460 i 0 0 l in
+    let masks : (k : ℕ) → k < 292 → mask e k ≤ maskMost = λ k l. rw (zero-at (entrySize * k + maskAt) (omega arith)) (omega arith) in
+    let clean : (k : ℕ) → k < 292 → hostBits (network e k) (mask e k) ≡ 0 = λ k l.
+    let at = entrySize * k in
+    rw (zero-at at (omega arith), zero-at (at + 1) (omega arith), zero-at (at + 2) (omega arith), zero-at (at + 2 + 1) (omega arith), zero-at (at + maskAt) (omega arith)) in
+    let none-found : packetFault 4 (packetOf h e) ≡ none = reads-back h e .check ∙ allowed-written e (record { few = omega arith; whole = refl; masks = masks; clean = clean }) in
     rw none-found
 
 -- the test, over both tables
 all-right : (all (right answers says) examples ≡ true) × (all (right answers says) (drop 1 edges) ≡ true)
-unfolding examples edges wellFormed ones onesIn writtenTo distance inside advance bit shift mark word header headerOctets packetOf isU isD unnamed firstWhere firstBadMask hnaFault packetFault writtenFault packetCheck flagsHere flagsElsewhere passedOn settingsOk allowed cellsNeeded makeAllowed linkOf neighbourOf interfaceOf refusal standsBelow lastSent nextNumber branch unless receiveFault burstFits ownFault conclude receiveEach takeBurst answerBest fillRows answerLocate verdict storeCounted counted uncounted decide takeEcho judge send purge step firstRecord nextRecord isMarked recordEcho dropOld entryOf networkOf maskOf entryAt entriesOf covers serving
+unfolding examples edges wellFormed ones onesIn writtenTo distance inside advance bit shift mark word header headerOctets packetOf isU isD unnamed firstWhere firstBreaking hnaFault packetFault writtenFault packetCheck flagsHere flagsElsewhere passedOn settingsOk allowed cellsNeeded makeAllowed linkOf neighbourOf interfaceOf refusal standsBelow lastSent nextNumber branch unless receiveFault burstFits ownFault conclude receiveEach takeBurst answerBest fillRows answerLocate verdict storeCounted counted uncounted decide takeEcho judge send purge step firstRecord nextRecord isMarked recordEcho dropOld entryOf networkOf maskOf entryAt entriesOf covers serving
 all-right = (refl, refl)
 
 -- P1 to P12

@@ -13,7 +13,7 @@ use Rattle.lists.proofs.Tests.{both, and-left}
 use Rattle.wire.specs.declared.Fault.{Fault}
 use Rattle.wire.specs.Layout.{headerSize, entrySize, packetMost, versionAt}
 use Rattle.wire.specs.Packet.{octet, hna}
-use Rattle.wire.specs.Check.{given, firstOf, faultOf, sizeFault, firstBadMask, hnaFaults, hnaFault, packetFaults, packetFault, writtenFault}
+use Rattle.wire.specs.Check.{placed, given, firstOf, faultOf, sizeFault, firstBreaking, badMask, hostBitsSet, hnaFaults, hnaFault, packetFaults, packetFault, writtenFault}
 use Rattle.rules.specs.Calls.{isRuleRefusal, refusalMost}
 use Rattle.rules.specs.Rules.{unless}
 
@@ -44,7 +44,7 @@ unless-then none none refuse o = refl
 unless-then none (some f) refuse o = refl
 unless-then (some f) y refuse o = refl
 
--- ---- the numbers of refusals are 2 to 15
+-- ---- the numbers of refusals are 2 to 16
 
 abbrev pub numbered : Option Fault → Bool
 numbered x = maybe x true (λ f. isRuleRefusal (f .number))
@@ -58,13 +58,16 @@ pub given-numbered : (t : Bool) (n : ℕ) → isRuleRefusal n ≡ true → numbe
 given-numbered true n h = h
 given-numbered false n h = refl
 
+entry-numbered : (n : ℕ) (x : Option ℕ) → isRuleRefusal n ≡ true → numbered (maybe x none (λ k. some (placed n k))) ≡ true
+entry-numbered n none h = refl
+entry-numbered n (some k) h = h
+
 hna-numbered : (e : List ℕ) → numbered (hnaFault e) ≡ true
 unfolding hnaFault
-hna-numbered e = first-numbered (hnaFaults e) (both (given-numbered (not (eqb (length e % entrySize) 0)) 7 refl) (both (mask (firstBadMask e)) refl))
-  where
-    mask : (x : Option ℕ) → numbered (maybe x none (λ k. some (record { number = 8; place = k }))) ≡ true
-    mask none = refl
-    mask (some k) = refl
+hna-numbered e =
+    first-numbered (hnaFaults e)
+    (both (given-numbered (not (eqb (length e % entrySize) 0)) 7 refl)
+    (both (entry-numbered 8 (firstBreaking badMask e) refl) (both (entry-numbered 16 (firstBreaking hostBitsSet e) refl) refl)))
 
 pub packet-numbered : (v : ℕ) (p : List ℕ) → numbered (packetFault v p) ≡ true
 unfolding packetFault
@@ -77,6 +80,11 @@ unfolding writtenFault
 written-numbered e =
     first-numbered (sizeFault (headerSize + length e) ∷ hnaFault e ∷ [])
     (both (given-numbered (ltb (headerSize + length e) headerSize || ltb packetMost (headerSize + length e)) 5 refl) (both (hna-numbered e) refl))
+
+-- of a packet without fault, each of the faults of its HNA octets is none
+pub hna-none : (v : ℕ) (p : List ℕ) → packetFault v p ≡ none → (k : ℕ) → getD (hnaFaults (hna p)) k none ≡ none
+unfolding packetFault hnaFault
+hna-none v p h = none-at (hnaFaults (hna p)) (none-at (packetFaults v p) h 2)
 
 -- the number 0 stands for no refusal
 pub no-number : (x : Option Fault) → numbered x ≡ true → faultOf x .number ≡ 0 → x ≡ none

@@ -1,18 +1,23 @@
--- The lookup is a scan in table order with a best so far, which gives way only to a longer mask.
-use Prim.Native.Nat.{ℕ, suc, _+_, _<_}
+-- The lookup is a scan in table order with a best so far, which gives way only to a longer mask; and a network without host bits has one name.
+use Prim.Native.Nat.{ℕ, suc, _+_, _-_, _*_, _^_, _<_}
 use mathlib.Core.Path.{_≡_, refl, sym, ap, ap₂, _∙_}
 use mathlib.Core.Bool.{Bool, true, false, cond, _&&_, _||_, not, and-false, or-false}
 use mathlib.Core.Option.{Option, none, some}
 use mathlib.Core.List.{List, [], _∷_, _++_}
 use lib.Dec.{ltb, leb, eqb}
+use native.Mathlib.Nat.{add-zero}
 use native.Mathlib.Omega.{arith}
 use borrow.Author.Tests.{ltb-true, ltb-false, leb-true, leb-false, eqb-true, lt-ltb, le-ltb, le-leb, lt-leb, eq-eqb, ne-eqb}
 use Rattle.lists.specs.Lists.{maybe, keep, all, first}
 use Rattle.lists.proofs.Tests.{by-test, both, and-left, and-right, or-right}
 use Rattle.lists.proofs.Lists.{all-append, all-kept, first-also}
 use Rattle.lists.proofs.Rising.{Rising}
-use Rattle.wire.specs.Entries.{maskOf}
-use Rattle.rules.specs.Lookup.{covers, Announced, announcedBy, announced, goesBefore, covering, serving}
+use Rattle.wire.specs.Layout.{maskMost}
+use Rattle.wire.specs.Check.{hostBits}
+use Rattle.wire.specs.Entries.{networkOf, maskOf, isClean}
+use Rattle.wire.proofs.Laws.{host-bits}
+use Rattle.rules.specs.Promises.{OneName}
+use Rattle.rules.specs.Lookup.{leading, covers, Announced, announcedBy, announced, goesBefore, covering, serving}
 
 abbrev maskIn : Announced → ℕ
 maskIn x = maskOf (x .entry)
@@ -207,3 +212,28 @@ serving-scan a xs r =
     from-none : (c : Option Announced) → c ≡ join none c
     from-none none = refl
     from-none (some y) = sym (ap (λ (t : Bool). cond t (some y) none) (le-leb 0 (maskIn y) (omega arith)))
+
+-- ---- one name
+
+-- an entry is its network and its mask
+parts : (x : ℕ) → x ≡ networkOf x * 256 + maskOf x
+unfolding networkOf maskOf
+parts x = omega arith
+
+-- without host bits, a network is its leading bits
+leads : (x : ℕ) → isClean x ≡ true → networkOf x ≡ leading (maskOf x) (networkOf x) * 2 ^ (maskMost - maskOf x)
+unfolding isClean
+leads x h =
+    let n = networkOf x in
+    let m = maskOf x in
+    let z : hostBits n m ≡ 0 = eqb-true (hostBits n m) 0 h in
+    host-bits n m .joined ∙ ap (λ (b : ℕ). leading m n * 2 ^ (maskMost - m) + b) z ∙ add-zero (leading m n * 2 ^ (maskMost - m))
+
+pub one-name : OneName
+unfolding covers
+one-name a x y cx cy em ax ay =
+    let lead : leading (maskOf x) (networkOf x) ≡ leading (maskOf y) (networkOf y)
+    = eqb-true _ _ ax ∙ ap (λ (m : ℕ). leading m a) em ∙ sym (eqb-true _ _ ay) in
+    let same : networkOf x ≡ networkOf y
+    = leads x cx ∙ ap₂ (λ (b m : ℕ). b * 2 ^ (maskMost - m)) lead em ∙ sym (leads y cy) in
+    parts x ∙ ap₂ (λ (n m : ℕ). n * 256 + m) same em ∙ sym (parts y)

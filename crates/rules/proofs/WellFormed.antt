@@ -21,7 +21,7 @@ use Rattle.window.proofs.Numbers.{distance-self}
 use Rattle.wire.specs.declared.Header.{Header}
 use Rattle.wire.specs.Layout.{headerSize, entrySize, maskMost, ttlAt, originatorAt, maskAt}
 use Rattle.wire.specs.Packet.{octet, read4, header, hna}
-use Rattle.wire.specs.Check.{firstOf, entries, mask, hnaFaults, hnaFault, packetFaults, packetFault}
+use Rattle.wire.specs.Check.{firstOf, entries, network, mask}
 use Rattle.wire.specs.Entries.{entryAt}
 use Rattle.wire.proofs.Entries.{network-of, mask-of, all-entries, masks-low}
 use Rattle.rules.specs.Settings.{Config, configOf, allowed, makeAllowed, neighbourMost, linkMost, entryMost, interfaceMost, octets, addresses, isOctet, isAddress, isNumber, isTime, isInUse, isOwn}
@@ -31,7 +31,7 @@ use Rattle.rules.specs.Rules.{sequenceOf, Sends, hasSent, lastSent, next
 use Rattle.rules.specs.Table.{TableRecord, TableState, firstRecord, nextRecord, recordEcho, rowDistance, dropOld, table}
 use Rattle.rules.specs.Refusals.{Questions, found, questions, countedRecord, foreign, wouldEcho, wouldCount, facts, outcome}
 use Rattle.rules.specs.WellFormed.{sendTests, rowTests, entryTests, entriesOk, recordTests, tableTests, wellFormed, receiveTypes, typed}
-use Rattle.rules.proofs.Faults.{none-at, not-given}
+use Rattle.rules.proofs.Faults.{none-at, not-given, hna-none}
 use Rattle.rules.proofs.Config.{make-allowed, timeout-low, interfaces-high}
 use Rattle.rules.proofs.Links.{neighbour-of, interface-of}
 use Rattle.rules.proofs.Sends.{Fit, next-lt, last-lt, last-other}
@@ -242,10 +242,8 @@ module _ (cells : ℕ) (s : TableState) (w : Wf s) (r : ReceiveArgs) (t : typed 
 
   -- no mask is above 32, by refusal 8
   masks : (k : ℕ) → k < entries (hna (r .packet)) → mask (hna (r .packet)) k ≤ maskMost
-  unfolding facts packetFault hnaFault
-  masks =
-      let v = s .config .settings .version in
-      masks-low (hna (r .packet)) (none-at (hnaFaults (hna (r .packet))) (none-at (packetFaults v (r .packet)) (none-at (facts table cells s (receive r)) n 3) 2) 1)
+  unfolding facts
+  masks = masks-low (hna (r .packet)) (hna-none (s .config .settings .version) (r .packet) (none-at (facts table cells s (receive r)) n 3) 1)
 
   message-entries : entriesOk (m .entries) ≡ true
   unfolding entryAt
@@ -260,7 +258,7 @@ module _ (cells : ℕ) (s : TableState) (w : Wf s) (r : ReceiveArgs) (t : typed 
       each : (k : ℕ) → k < entries e → and (entryTests (entryAt e k)) ≡ true
       each k l =
           let a = entrySize * k in
-          let n₀ = read4 e a in
+          let n₀ = network e k in
           let small : mask e k < 256 = entry-octet (entrySize * k + maskAt) in
           let address : n₀ < addresses = omega (arith, entry-octet a, entry-octet (a + 1), entry-octet (a + 2), entry-octet (a + 2 + 1)) in
           and-each {ts = entryTests (entryAt e k)}

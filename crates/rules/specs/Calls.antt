@@ -120,7 +120,7 @@ numberOf (located a) = a .number
 
 -- a number that refuses; 1 is asked of the cells, so the rules give the others
 abbrev pub refusalMost : ℕ
-refusalMost = 15
+refusalMost = 16
 
 abbrev pub isRefusal : ℕ → Bool
 isRefusal n = within 1 refusalMost n
@@ -138,7 +138,7 @@ noRoute = record { neighbour = 0; interface = 0; count = 0; window = 0 }
 abbrev pub routeBy : (link count W : ℕ) → Route
 routeBy l n w = record { neighbour = neighbourOf l; interface = interfaceOf l; count = n; window = w }
 
--- a received packet's: a refusal or verdict, the place that 8 carries, the flags octet for the other interfaces, the route
+-- a received packet's: a refusal or verdict, the place that 8 and 16 carry, the flags octet for the other interfaces, the route
 abbrev pub receivedAs : (number place flags : ℕ) → Route → Received
 receivedAs n p f x = record { number = n; place = p; flags = f; route = x }
 
@@ -146,7 +146,7 @@ receivedAs n p f x = record { number = n; place = p; flags = f; route = x }
 abbrev pub burstAs : (number written : ℕ) → Burst
 burstAs n w = record { number = n; written = w }
 
--- an own packet's: 0 or a refusal, the place that 8 carries, the packet's length and number
+-- an own packet's: 0 or a refusal, the place that 8 and 16 carry, the packet's length and number
 abbrev pub writtenAs : (number place length sequence : ℕ) → Written
 writtenAs n p l m = record { number = n; place = p; length = l; sequence = m }
 
@@ -180,7 +180,7 @@ answeredFilling a rs = record { answer = a; output = []; rows = rs; answers = []
 abbrev pub answeredEach : Answer → (output : List ℕ) → (answers : List Received) → Reply
 answeredEach a o rs = record { answer = a; output = o; rows = []; answers = rs }
 
--- a refused call returns its number, every other answer field 0 but the place for 8, and writes nothing (RULES 8.1)
+-- a refused call returns its number, every other answer field 0 but the place for 8 and 16, and writes nothing (RULES 8.1)
 unfoldable pub refusal : Call → Fault → Reply
 refusal (make a) f = answered (made (f .number))
 refusal (receive a) f = answeredWriting (received (receivedAs (f .number) (f .place) 0 noRoute)) (a .output)

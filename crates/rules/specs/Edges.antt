@@ -1,8 +1,9 @@
 -- The edges of the rules, each limit and one beyond it, as a table of rows like those of P1 to P12. (RULES 11.2)
-use Prim.Native.Nat.{ℕ, zero, suc, _+_, _-_, _*_}
+use Prim.Native.Nat.{ℕ, zero, suc, _+_, _-_, _*_, _^_}
 use mathlib.Core.Bool.{true, false}
 use mathlib.Core.List.{List, [], _∷_, _++_, map}
 use lib.ListN.{replicate}
+use Rattle.wire.specs.Packet.{write4}
 use Rattle.rules.specs.declared.Settings.{Settings}
 use Rattle.rules.specs.declared.LinkRow.{LinkRow}
 use Rattle.rules.specs.Settings.{newestWins, presentStays, MakeArgs, defaults, cellsNeeded}
@@ -13,14 +14,29 @@ use Rattle.rules.specs.Examples.{Case, passes, sends, checks, makes, pla
 
 -- ---- packets, settings and tables
 
+abbrev pub upFrom : (first n : ℕ) → List ℕ
+upFrom a zero = []
+upFrom a (suc n) = a ∷ upFrom (suc a) n
+
 -- the HNA octets of entries with these masks
 abbrev pub entriesWith : List ℕ → List ℕ
 entriesWith [] = []
 entriesWith (m ∷ ms) = 0 ∷ 0 ∷ 0 ∷ 0 ∷ m ∷ entriesWith ms
 
--- a packet of version 4 with these HNA octets
+-- the HNA octets of an entry
+abbrev pub hnaEntry : (network mask : ℕ) → List ℕ
+hnaEntry a m = write4 a ++ (m ∷ [])
+
+-- a packet of version 4 with these HNA octets, and the check of it
+abbrev pub carrying : List ℕ → List ℕ
+carrying e = 4 ∷ (replicate 11 0 ++ e)
+
 abbrev pub checked : (version : ℕ) → List ℕ → Case
-checked v e = checks v (4 ∷ (replicate 11 0 ++ e))
+checked v e = checks v (carrying e ∷ [])
+
+-- the check of a packet with one entry for each of n masks, from the first on; its network address is what the mask gives
+abbrev pub checkedBy : (network : ℕ → ℕ) → (first n : ℕ) → Case
+checkedBy network m n = checks 4 (map (λ k. carrying (hnaEntry (network k) k)) (upFrom m n))
 
 abbrev pub six : (version window timeout purge capacity tie : ℕ) → Settings
 six v w b p n t = record { version = v; window = w; timeout = b; purge = p; capacity = n; tie = t }
@@ -35,10 +51,6 @@ tried σ n owns = makes (cellsNeeded (σ .capacity)) (makeArgs σ n owns)
 -- make with one interface row
 abbrev pub triedRow : (own broadcast first : ℕ) → Case
 triedRow a b n = makes (cellsNeeded 64) (record { settings = defaults; rows = interface a b n ∷ []; used = 1 })
-
-abbrev pub upFrom : (first n : ℕ) → List ℕ
-upFrom a zero = []
-upFrom a (suc n) = a ∷ upFrom (suc a) n
 
 -- W is 8; neighbours 20, 28 and 30 have rows; originator 900 has these links, by neighbour, and no other is held
 abbrev pub heldBy : (tie capacity current best : ℕ) → List (ℕ × List ℕ) → TableState
@@ -83,7 +95,7 @@ eight b xs ys = held 64 10 b ((20, xs) ∷ (21, ys) ∷ map (λ a. (a, 10 ∷ []
 
 -- an OGM of originator 900, relayed, with every field and an HNA entry
 abbrev pub relayed : List ℕ
-relayed = 4 ∷ 69 ∷ 50 ∷ 7 ∷ 0 ∷ 10 ∷ 1 ∷ 2 ∷ 0 ∷ 0 ∷ 3 ∷ 132 ∷ 1 ∷ 2 ∷ 3 ∷ 4 ∷ 24 ∷ []
+relayed = 4 ∷ 69 ∷ 50 ∷ 7 ∷ 0 ∷ 10 ∷ 1 ∷ 2 ∷ 0 ∷ 0 ∷ 3 ∷ 132 ∷ 1 ∷ 2 ∷ 3 ∷ 4 ∷ 30 ∷ []
 
 -- tables with these numbers sent, neighbour rows, records; with one record of these fields
 abbrev pub sentRows : List (ℕ × ℕ) → List (ℕ × ℕ) → TableState
@@ -159,7 +171,7 @@ edges =
     -- 5: 1,472 and 1,473 octets, 11 and 12
     row (checked 4 (replicate 1460 0)) (0 ∷ [])
     ∷ row (checked 4 (replicate 1461 0)) (5 ∷ [])
-    ∷ row (checks 4 (4 ∷ replicate 10 0)) (5 ∷ [])
+    ∷ row (checks 4 ((4 ∷ replicate 10 0) ∷ [])) (5 ∷ [])
     ∷ row (checked 4 []) (0 ∷ [])
     -- 6, 7, and 8 with the first bad place; the lower number first
     ∷ row (checked 5 []) (6 ∷ [])
@@ -167,11 +179,42 @@ edges =
     ∷ row (checked 4 (entriesWith (32 ∷ []))) (0 ∷ [])
     ∷ row (checked 4 (entriesWith (33 ∷ []))) (8 ∷ [])
     ∷ row (checked 4 (entriesWith (0 ∷ 32 ∷ 33 ∷ 255 ∷ []))) (520 ∷ [])
-    ∷ row (checks 5 (4 ∷ replicate 10 0)) (5 ∷ [])
+    ∷ row (checks 5 ((4 ∷ replicate 10 0) ∷ [])) (5 ∷ [])
     ∷ row (checked 5 (replicate 4 0)) (6 ∷ [])
     ∷ row (checked 4 (entriesWith (33 ∷ []) ++ (0 ∷ []))) (7 ∷ [])
-    -- the same of a received packet
-    ∷ play empty (hear 20 0 0 22 (4 ∷ (replicate 11 0 ++ entriesWith (32 ∷ 33 ∷ []))) ∷ hear 20 0 0 16 (4 ∷ replicate 15 0) ∷ []) (unheard 8 1 ∷ unheard 7 0 ∷ [])
+    -- 16 of every mask: the lowest host bit alone, the highest alone; 0: the lowest bit of the network alone (of mask 32 that of the address), address 0 with mask 0
+    ∷ row (checkedBy (λ m. 1) 0 32) (replicate 32 16)
+    ∷ row (checkedBy (λ m. 2 ^ (31 - m)) 0 32) (replicate 32 16)
+    ∷ row (checkedBy (λ m. 2 ^ (32 - m)) 1 32) (replicate 32 0)
+    ∷ row (checked 4 (hnaEntry 0 0)) (0 ∷ [])
+    -- each octet of the address has host bits; the first such place; after 6, 7 and 8, wherever the wrong mask stands
+    ∷ row (checks 4 (map (λ a. carrying (hnaEntry a 4)) (address 1 0 0 0 ∷ address 0 1 0 0 ∷ address 0 0 1 0 ∷ []))) (16 ∷ 16 ∷ 16 ∷ [])
+    ∷ row (checked 4 (joined (hnaEntry (address 10 1 0 0) 16 ∷ hnaEntry (address 10 1 0 7) 16 ∷ hnaEntry 1 0 ∷ []))) (272 ∷ [])
+    ∷ row (checked 5 (hnaEntry 1 0)) (6 ∷ [])
+    ∷ row (checked 4 (hnaEntry 1 0 ++ (0 ∷ []))) (7 ∷ [])
+    ∷ row (checked 4 (hnaEntry 1 0 ++ hnaEntry 0 33)) (264 ∷ [])
+    ∷ row (checked 4 (hnaEntry 0 33 ++ hnaEntry 1 0)) (8 ∷ [])
+    ∷ row (checked 4 (hnaEntry 1 33)) (8 ∷ [])
+    -- the same of a received packet, before every verdict and before 9, 10, 11 and 15; it changes nothing
+    ∷ play empty (hear 20 0 0 27 (brings 10 (joined (hnaEntry 0 0 ∷ hnaEntry 1 31 ∷ hnaEntry 1 0 ∷ []))) ∷ hear 20 0 0 22 (brings 10 (hnaEntry 1 0 ++ hnaEntry 0 33)) ∷ []) (unheard 16 1 ∷ unheard 8 1 ∷ [])
+    ∷ play empty (hear (address 10 0 0 1) 0 0 17 (brings 10 (hnaEntry 1 0)) ∷ []) (unheard 16 0 ∷ [])
+    ∷ play (crowd 32) (hear 99 0 0 17 (echoed ++ hnaEntry 1 0) ∷ []) (unheard 16 0 ∷ [])
+    ∷ play (held 1 10 20 ((20, 10 ∷ []) ∷ [])) (hear 20 0 0 17 (packet 901 0 50 11 ++ hnaEntry 1 0) ∷ []) (unheard 16 0 ∷ [])
+    ∷ play (eight 20 (3 ∷ []) (9 ∷ 10 ∷ [])) (hear 28 0 0 17 (brings 11 (hnaEntry 1 0)) ∷ []) (unheard 16 0 ∷ [])
+    ∷ play keeper (hear 20 0 9 102 (brings 11 (repeated 17 ++ hnaEntry 1 0)) ∷ sweep 8 ∷ question 900 ∷ inTen ∷ []) (unheard 16 17 ∷ total 0 ∷ told (via 20 1) ∷ found 900 (address 10 0 0 0) 8 ∷ [])
+    ∷ row (leaves empty (receive (record { packet = brings 10 (hnaEntry 1 0); sender = 20; interface = 0; time = 0; output = replicate 18 9 }))) (replicate 18 9)
+    -- a packet of a burst, and the next one all the same
+    ∷ row (leaves single (hearAll 0 17 2 ((20, eleven 132 ++ hnaEntry 1 0) ∷ (20, eleven 132) ∷ []))) (joined (elevenPassed 132 ∷ replicate 5 0 ∷ unheard 16 0 ∷ heard 26 0 (via 20 2) ∷ []))
+    -- of an own packet, before 13
+    ∷ play empty (write 0 0 1 22 (hnaEntry 0 0 ++ hnaEntry 1 0) ∷ write 0 0 50 22 (hnaEntry 1 0 ++ hnaEntry 0 33) ∷ write 0 0 50 22 (hnaEntry 0 0 ++ hnaEntry 1 32) ∷ []) (unwritten 16 1 ∷ unwritten 8 1 ∷ wrote 22 6 ∷ [])
+    -- an entry with host bits that is held: found as it stands, left where the same is announced again or a number inside the window brings another, replaced by a new number
+    ∷ play (alone (address 10 1 0 7) 16)
+    (inTen ∷ hear 20 0 0 17 (brings 11 (hnaEntry (address 10 1 0 7) 16)) ∷ hear 30 0 0 17 (brings 10 entryEleven) ∷ inTen ∷ hear 20 0 0 17 (brings 11 entryEleven) ∷ inTen ∷ [])
+    (found 900 (address 10 1 0 7) 16 ∷ unheard 16 0 ∷ heard 26 0 (via 30 1) ∷ found 900 (address 10 1 0 7) 16 ∷ heard 26 0 (via 20 2) ∷ unfound ∷ [])
+    ∷ play (alone (address 10 1 0 7) 16) (sweep 640000 ∷ inTen ∷ sweep 640001 ∷ inTen ∷ []) (total 0 ∷ found 900 (address 10 1 0 7) 16 ∷ total 1 ∷ unfound ∷ [])
+    ∷ row (formed (alone (address 10 1 0 7) 16)) (1 ∷ [])
+    -- 7 and 8 of a received packet
+    ∷ play empty (hear 20 0 0 22 (carrying (entriesWith (32 ∷ 33 ∷ []))) ∷ hear 20 0 0 16 (4 ∷ replicate 15 0) ∷ []) (unheard 8 1 ∷ unheard 7 0 ∷ [])
     ∷ play empty (hear 20 0 0 12 (5 ∷ replicate 11 0) ∷ hear 20 0 0 11 (5 ∷ replicate 10 0) ∷ []) (unheard 6 0 ∷ unheard 5 0 ∷ [])
     -- U and D told apart; unnamed bits stay
     ∷ row (passes true 900 900 128 50) (0 ∷ 0 ∷ heard 24 0 nowhere)
@@ -195,15 +238,15 @@ edges =
     ∷ play empty (write 0 0 50 1472 (entriesWith (33 ∷ []) ++ replicate 1455 0) ∷ write 0 0 50 1477 (entriesWith (33 ∷ []) ++ replicate 1460 0) ∷ []) (unwritten 8 0 ∷ unwritten 5 0 ∷ [])
     ∷ play empty (write 0 0 50 16 (replicate 4 0) ∷ write 0 0 50 11 [] ∷ write 0 0 50 1476 (replicate 1465 0) ∷ []) (unwritten 7 0 ∷ unwritten 4 0 ∷ unwritten 4 0 ∷ [])
     -- its octets, high octet first, and the rest of the output untouched; all of it where it is refused
-    ∷ row (leaves empty (own (record { interface = 1; time = 0; ttl = 3; gateway = 7; port = 258; hna = 1 ∷ 2 ∷ 3 ∷ 4 ∷ 24 ∷ []; output = replicate 18 9 })))
-    (4 ∷ 0 ∷ 3 ∷ 7 ∷ 255 ∷ 255 ∷ 1 ∷ 2 ∷ 10 ∷ 0 ∷ 0 ∷ 2 ∷ 1 ∷ 2 ∷ 3 ∷ 4 ∷ 24 ∷ 9 ∷ [])
+    ∷ row (leaves empty (own (record { interface = 1; time = 0; ttl = 3; gateway = 7; port = 258; hna = 1 ∷ 2 ∷ 3 ∷ 4 ∷ 30 ∷ []; output = replicate 18 9 })))
+    (4 ∷ 0 ∷ 3 ∷ 7 ∷ 255 ∷ 255 ∷ 1 ∷ 2 ∷ 10 ∷ 0 ∷ 0 ∷ 2 ∷ 1 ∷ 2 ∷ 3 ∷ 4 ∷ 30 ∷ 9 ∷ [])
     ∷ row (leaves empty (own (record { interface = 2; time = 0; ttl = 3; gateway = 0; port = 0; hna = []; output = replicate 12 9 }))) (replicate 12 9)
     -- the version of the table
     ∷ play other (hear 20 0 0 12 (packet 900 0 50 11) ∷ []) (unheard 6 0 ∷ [])
     ∷ row (leaves other (write 0 0 3 12 [])) (7 ∷ 0 ∷ 3 ∷ 0 ∷ 0 ∷ 6 ∷ 0 ∷ 0 ∷ 10 ∷ 0 ∷ 0 ∷ 1 ∷ [])
     -- the octets of a passed-on copy, of a verdict that writes nothing, and of a refusal
     ∷ row (leaves empty (receive (record { packet = relayed; sender = 20; interface = 0; time = 0; output = replicate 18 9 })))
-    (4 ∷ 5 ∷ 49 ∷ 7 ∷ 0 ∷ 10 ∷ 1 ∷ 2 ∷ 0 ∷ 0 ∷ 3 ∷ 132 ∷ 1 ∷ 2 ∷ 3 ∷ 4 ∷ 24 ∷ 9 ∷ [])
+    (4 ∷ 5 ∷ 49 ∷ 7 ∷ 0 ∷ 10 ∷ 1 ∷ 2 ∷ 0 ∷ 0 ∷ 3 ∷ 132 ∷ 1 ∷ 2 ∷ 3 ∷ 4 ∷ 30 ∷ 9 ∷ [])
     ∷ row (leaves empty (receive (record { packet = relayed; sender = 50; interface = 0; time = 0; output = replicate 18 9 }))) (replicate 18 9)
     ∷ row (leaves empty (receive (record { packet = relayed; sender = 20; interface = 2; time = 0; output = replicate 18 9 }))) (replicate 18 9)
     -- 4: receive's output exactly as long and one shorter, verdict aside, before 5
@@ -242,12 +285,12 @@ edges =
     -- 11: a ninth link; it comes in where another loses its last mark and isn't best, and not where that one is best
     ∷ play (eight 22 (3 ∷ []) (10 ∷ [])) (hear 28 0 0 12 (packet 900 0 50 10) ∷ hear 28 0 0 12 (packet 900 0 50 11) ∷ list 900 (replicate 8 blank) ∷ []) (unheard 11 0 ∷ heard 26 0 (via 28 1) ∷ total 8 ∷ [])
     ∷ play (eight 20 (3 ∷ []) (9 ∷ 10 ∷ [])) (hear 28 0 0 12 (packet 900 0 50 11) ∷ []) (unheard 11 0 ∷ [])
-    -- an entry's octets: the network before the mask, high octet first, answered as announced; the entries behind it
-    ∷ play empty (hear 20 0 0 17 relayed ∷ locate (address 1 2 3 9) ∷ locate (address 1 2 4 4) ∷ []) (heard 26 5 (via 20 1) ∷ found 900 (address 1 2 3 4) 24 ∷ unfound ∷ [])
+    -- an entry's octets: the network before the mask, high octet first; the entries behind it
+    ∷ play empty (hear 20 0 0 17 relayed ∷ locate (address 1 2 3 7) ∷ locate (address 1 2 3 8) ∷ []) (heard 26 5 (via 20 1) ∷ found 900 (address 1 2 3 4) 30 ∷ unfound ∷ [])
     ∷ play empty
-    (hear 20 0 0 27 (brings 10 (10 ∷ 9 ∷ 0 ∷ 0 ∷ 8 ∷ 10 ∷ 1 ∷ 0 ∷ 0 ∷ 16 ∷ 11 ∷ 0 ∷ 0 ∷ 1 ∷ 32 ∷ [])) ∷ locate (address 10 2 0 0) ∷ inTen ∷ locate (address 11 0 0 1) ∷ [])
-    (heard 26 0 (via 20 1) ∷ found 900 (address 10 9 0 0) 8 ∷ found 900 (address 10 1 0 0) 16 ∷ found 900 (address 11 0 0 1) 32 ∷ [])
-    -- masks 0, 1, 8, 24, 31 and 32: the first and the last address covered, and one beyond each; bits of the network below the mask are set
+    (hear 20 0 0 27 (brings 10 (10 ∷ 0 ∷ 0 ∷ 0 ∷ 8 ∷ 10 ∷ 1 ∷ 0 ∷ 0 ∷ 16 ∷ 11 ∷ 0 ∷ 0 ∷ 1 ∷ 32 ∷ [])) ∷ locate (address 10 2 0 0) ∷ inTen ∷ locate (address 11 0 0 1) ∷ [])
+    (heard 26 0 (via 20 1) ∷ found 900 (address 10 0 0 0) 8 ∷ found 900 (address 10 1 0 0) 16 ∷ found 900 (address 11 0 0 1) 32 ∷ [])
+    -- masks 0, 1, 8, 24, 31 and 32: the first and the last address covered, and one beyond each; entries that are held may have host bits
     ∷ play (alone (address 1 2 3 4) 0) (locate 0 ∷ locate 4294967295 ∷ []) (found 900 (address 1 2 3 4) 0 ∷ found 900 (address 1 2 3 4) 0 ∷ [])
     ∷ play (alone (address 255 2 3 4) 1) (locate (address 127 255 255 255) ∷ locate (address 128 0 0 0) ∷ []) (unfound ∷ found 900 (address 255 2 3 4) 1 ∷ [])
     ∷ play (alone (address 10 9 8 7) 8) (locate (address 9 255 255 255) ∷ locate (address 10 0 0 0) ∷ locate (address 10 255 255 255) ∷ locate (address 11 0 0 0) ∷ []) (unfound ∷ found 900 (address 10 9 8 7) 8 ∷ found 900 (address 10 9 8 7) 8 ∷ unfound ∷ [])
@@ -424,7 +467,7 @@ edges =
     (bundled 24 ∷ told (via 20 2) ∷ told (via 20 1) ∷ [])
     -- a copy is as long as its packet
     ∷ row (leaves single (hearAll 0 31 2 ((20, relayed) ∷ (20, eleven 133) ∷ [])))
-    (joined ((4 ∷ 5 ∷ 49 ∷ 7 ∷ 0 ∷ 10 ∷ 1 ∷ 2 ∷ 0 ∷ 0 ∷ 3 ∷ 132 ∷ 1 ∷ 2 ∷ 3 ∷ 4 ∷ 24 ∷ []) ∷ elevenPassed 133 ∷ replicate 2 0 ∷ heard 26 5 (via 20 1) ∷ heard 26 0 (via 20 1) ∷ []))
+    (joined ((4 ∷ 5 ∷ 49 ∷ 7 ∷ 0 ∷ 10 ∷ 1 ∷ 2 ∷ 0 ∷ 0 ∷ 3 ∷ 132 ∷ 1 ∷ 2 ∷ 3 ∷ 4 ∷ 30 ∷ []) ∷ elevenPassed 133 ∷ replicate 2 0 ∷ heard 26 5 (via 20 1) ∷ heard 26 0 (via 20 1) ∷ []))
     -- the output runs out, and a shorter packet still fits
     ∷ row (leaves single (hearAll 0 24 3 ((20, eleven 132) ∷ (20, relayed) ∷ (20, eleven 133) ∷ [])))
     (joined (elevenPassed 132 ∷ elevenPassed 133 ∷ heard 26 0 (via 20 2) ∷ unheard 4 0 ∷ heard 26 0 (via 20 1) ∷ []))
@@ -452,7 +495,7 @@ edges =
     (refused 14 ∷ refused 14 ∷ refused 14 ∷ refused 14 ∷ refused 14 ∷ refused 14 ∷ refused 14 ∷ refused 14 ∷ refused 14 ∷ told (via 20 1) ∷ [])
     -- 32 packets and 33
     ∷ play single (burst (bundle [] (replicate 32 0) (replicate 32 20) (replicate 32 0) 32) ∷ burst (bundle [] (replicate 33 0) (replicate 33 20) (replicate 33 0) 33) ∷ []) (bundled 0 ∷ refused 14 ∷ [])
-    -- a refused call answers its number, the place for 8 and 0 in every other field, and writes nothing
+    -- a refused call answers its number, the place for 8 and 16 and 0 in every other field, and writes nothing
     ∷ row (refuses (receive (record { packet = relayed; sender = 20; interface = 0; time = 0; output = 9 ∷ 9 ∷ [] })) 8 3) (8 ∷ 3 ∷ 0 ∷ 0 ∷ 0 ∷ 0 ∷ 0 ∷ 9 ∷ 9 ∷ [])
     ∷ row (refuses (burst (bundle (eleven 132) (12 ∷ []) (20 ∷ []) [] 1)) 14 0) (joined (refused 14 ∷ replicate 12 0 ∷ replicate 7 9 ∷ []))
     ∷ row (refuses (own (record { interface = 1; time = 0; ttl = 3; gateway = 7; port = 258; hna = []; output = 9 ∷ 9 ∷ [] })) 8 3) (8 ∷ 3 ∷ 0 ∷ 0 ∷ 9 ∷ 9 ∷ [])

@@ -35,8 +35,8 @@ pub data Case : Type 0 where
   sends : (B n m : ℕ) → Case
   -- version, TTL, number and originator of a packet
   reads : (packet : List ℕ) → Case
-  -- the packet check's answer
-  checks : (version : ℕ) (packet : List ℕ) → Case
+  -- the packet check's answer to each of these packets
+  checks : (version : ℕ) (packets : List (List ℕ)) → Case
   -- the answer to a make that is lent so many cells
   makes : (cells : ℕ) → MakeArgs → Case
   -- calls one after the other on a table: every field of each answer
@@ -173,7 +173,7 @@ reply (sends B n m) =
     let t = step table 0 s (write 0 0 50 12 []) .state in
     maybe (lookup 0 (t .sends)) 0 (λ k. k) ∷ rowDistance (t .config) (t .sends) (linkOf 20 0, m) ∷ length (t .rows) ∷ []
 reply (reads p) = header p .version ∷ header p .ttl ∷ header p .sequence ∷ header p .originator ∷ []
-reply (checks v p) = packetCheck v p ∷ []
+reply (checks v ps) = map (packetCheck v) ps
 reply (makes n a) = answerShown (step table n (fresh table (config (settings 8 32 64))) (make a) .reply .answer)
 reply (plays s cs) = played table 0 s cs
 reply (formed s) = flag (wellFormed s)

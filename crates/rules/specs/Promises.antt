@@ -1,8 +1,8 @@
--- What RULES 6 and 7 say of the calls in other words than their definitions: an own packet reads back, a copy keeps every octet except two, and
--- other originators' records do not change. `proofs/Promises.antt` proves each of every call that is not refused.
+-- What RULES 6 and 7 say of the calls in other words than their definitions: an own packet reads back, a copy keeps every octet except two,
+-- other originators' records do not change, and a network has one name. `proofs/Promises.antt` proves each of every call that is not refused.
 use Prim.Native.Nat.{ℕ, _+_}
 use mathlib.Core.Path.{_≡_}
-use mathlib.Core.Bool.{false, not}
+use mathlib.Core.Bool.{true, false, not}
 use mathlib.Core.Option.{none}
 use mathlib.Core.List.{List, _++_}
 use lib.ListN.{length, drop}
@@ -10,11 +10,17 @@ use Rattle.lists.specs.Keyed.{lookup}
 use Rattle.wire.specs.Layout.{headerSize}
 use Rattle.wire.specs.Packet.{header, hna, isU, isD, unnamed}
 use Rattle.wire.specs.Check.{packetFault}
+use Rattle.wire.specs.Entries.{maskOf, isClean}
 use Rattle.wire.specs.PassOn.{passedOn}
 use Rattle.wire.specs.Laws.{Copy}
 use Rattle.rules.specs.declared.Route.{Route}
 use Rattle.rules.specs.Calls.{received, written, receivedAs, writtenAs, ReceiveArgs, OwnArgs, numberOf}
+use Rattle.rules.specs.Lookup.{covers}
 use Rattle.rules.specs.Rules.{Reading, StateOf, OutcomeOf, linkBy, singleHop, ownHeader}
+
+-- without host bits a network has one name: of equal masks, two such entries that cover one address are the same entry (RULES 3.5, 7.6)
+abbrev pub OneName : Type 0
+OneName = (a x y : ℕ) → isClean x ≡ true → isClean y ≡ true → maskOf x ≡ maskOf y → covers a x ≡ true → covers a y ≡ true → x ≡ y
 
 module _ (W : Reading) (s : StateOf W) where
   -- an own packet: just its length is written at the start of the output

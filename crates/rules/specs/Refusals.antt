@@ -1,5 +1,5 @@
 -- RULES 8, "Refusals", and 6, "Receiving", a second time, as their tables have them: for each call the facts
--- that concern it in ascending order, the verdicts in theirs, and flatly what a received packet leaves. The rules come to the same step by step.
+-- that concern it in their order, the verdicts in theirs, and flatly what a received packet leaves. The rules come to the same step by step.
 use Prim.Native.Nat.{ℕ, _+_}
 use mathlib.Core.Path.{_≡_}
 use mathlib.Core.Bool.{Bool, true, false, cond, _&&_, _||_, not}
@@ -138,7 +138,7 @@ module _ (W : Reading) (cells : ℕ) (s : StateOf W) where
       given (not (isInUse (s .config) (r .interface))) 2
       ∷ given (ltb (r .time) (s .time)) 3
       ∷ given (ltb (length (r .output)) (length (r .packet))) 4
-      -- 5, 6, 7, 8
+      -- 5, 6, 7, 8, 16
       ∷ packetFault (s .config .settings .version) (r .packet)
       -- 9, 10, 11, 15
       ∷ roomFacts W s r (header (r .packet)) (questions W s r (header (r .packet)))
@@ -147,7 +147,7 @@ module _ (W : Reading) (cells : ℕ) (s : StateOf W) where
       given (not (isInUse (s .config) (a .interface))) 2
       ∷ given (ltb (a .time) (s .time)) 3
       ∷ given (ltb (length (a .output)) (headerSize + length (a .hna))) 4
-      -- 5, 7, 8
+      -- 5, 7, 8, 16
       ∷ writtenFault (a .hna)
       ∷ given (ltb (a .ttl) ttlLeast) 13
       ∷ []
@@ -167,8 +167,8 @@ module _ (W : Reading) (cells : ℕ) (s : StateOf W) where
   outcome (locate a) = answerLocate W s (serving a (entriesHeld W s))
   outcome (list o lent) = fillRows W s lent (linkRows W (s .config) (lookup o (s .records)))
 
-  -- a call is refused by the first of its facts that holds, and then changes and writes nothing; its number is one of 2 to 15
-  -- otherwise it has its outcome, and answers none of 1 to 15
+  -- a call is refused by the first of its facts that holds, and then changes and writes nothing; its number is one of 2 to 16
+  -- otherwise it has its outcome, and answers none of 1 to 16
   pub record Exactly (c : Call) : Type 0 where
     pub refused : (f : Fault) → firstOf (facts c) ≡ some f → step W cells s c ≡ refuse W c s f
     pub numbers : (f : Fault) → firstOf (facts c) ≡ some f → isRuleRefusal (f .number) ≡ true

@@ -108,9 +108,9 @@ unfoldable pub unless : {A : Type 0} → Option Fault → (Fault → A) → A �
 unless none refuse x = x
 unless (some f) refuse x = refuse f
 
--- ---- the refusals that rest on arguments, settings and time alone, in ascending order (RULES 8.2, 8.3)
+-- ---- the refusals that rest on arguments, settings and time alone, in their order (RULES 8.2, 8.3)
 
--- 2, 3, 4 and, of the packet, 5, 6, 7, 8
+-- 2, 3, 4 and, of the packet, 5, 6, 7, 8, 16
 abbrev pub receiveFaults : Config → (now : ℕ) → ReceiveArgs → List (Option Fault)
 receiveFaults κ now r =
     given (not (isInUse κ (r .interface))) 2
@@ -135,7 +135,7 @@ burstTests a =
 unfoldable pub burstFits : BurstArgs → Bool
 burstFits a = and (burstTests a)
 
--- 2, 3, 4, of the packet p that would be written 5, 7, 8, and 13
+-- 2, 3, 4, of the packet p that would be written 5, 7, 8, 16, and 13
 abbrev pub ownFaults : Config → (now : ℕ) → OwnArgs → (p : List ℕ) → List (Option Fault)
 ownFaults κ now a p =
     given (not (isInUse κ (a .interface))) 2

@@ -62,7 +62,7 @@ pub struct LinkRow {
     pub best: u32,
 }
 
-// The answer to a received packet: a refusal or verdict, the place that 8 carries, the route of the packet's originator, and the flags octet for the
+// The answer to a received packet: a refusal or verdict, the place that 8 and 16 carry, the route of the packet's originator, and the flags octet for the
 // other interfaces. The octet is last, so that the struct has no gap inside and is copied in whole words.
 #[repr(C)]
 pub struct Received {

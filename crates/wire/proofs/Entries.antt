@@ -1,19 +1,20 @@
 -- Laws of HNA entries as numbers. Assumes nothing.
-use mathlib.Core.Path.{_≡_, refl, sym, ap, _∙_}
-use mathlib.Core.Bool.{Bool, true}
+use mathlib.Core.Path.{_≡_, refl, sym, ap, ap₂, _∙_}
+use mathlib.Core.Bool.{Bool, true, false}
 use mathlib.Core.List.{List}
 use mathlib.Core.Option.{Option, none, some}
 use Prim.Native.Nat.{ℕ, zero, suc, _+_, _<_, _≤_}
 use native.Mathlib.Nat.{add-zero, zero-add}
 use native.Mathlib.Omega.{arith}
-use borrow.Author.Tests.{ltb-false}
+use borrow.Author.Tests.{ltb-false, not-false}
+use lib.Dec.{eqb}
 use lib.ListN.{length, getD}
 use Rattle.lists.specs.Lists.{all, maybe}
 use Rattle.lists.proofs.Tests.{both}
 use Rattle.wire.specs.declared.Fault.{Fault}
 use Rattle.wire.specs.Layout.{maskMost}
-use Rattle.wire.specs.Check.{entries, mask, badMask, firstBadMask, maskFault}
-use Rattle.wire.specs.Entries.{entryOf, networkOf, maskOf, entryAt, entriesFrom, entriesOf}
+use Rattle.wire.specs.Check.{placed, entries, network, mask, firstBreaking, entryFault, badMask, maskFault, hostBits, hostBitsSet, hostBitsFault}
+use Rattle.wire.specs.Entries.{entryOf, networkOf, maskOf, isClean, entryAt, entriesFrom, entriesOf}
 use Rattle.wire.proofs.Search.{nowhere-false}
 
 -- ---- an entry's parts
@@ -57,12 +58,28 @@ pub entry-place : (e : List ℕ) (k : ℕ) → k < entries e → getD (entriesOf
 unfolding entriesOf
 entry-place e k h = place-from (entries e) 0 e k h ∙ ap (entryAt e) (zero-add k)
 
--- ---- a packet without fault has no mask above 32
+-- ---- a packet without fault
 
-pub masks-low : (e : List ℕ) → maskFault e ≡ none → (k : ℕ) → k < entries e → mask e k ≤ maskMost
-unfolding firstBadMask
-masks-low e h k l = ltb-false maskMost (mask e k) (nowhere-false (badMask e) (entries e) (none-found (firstBadMask e) h) k l)
+-- no entry breaks a rule whose refusal isn't given
+none-breaks : (n : ℕ) (breaks : List ℕ → ℕ → Bool) (e : List ℕ) → entryFault n breaks e ≡ none → (k : ℕ) → k < entries e → breaks e k ≡ false
+unfolding firstBreaking
+none-breaks n breaks e h = nowhere-false (breaks e) (entries e) (none-found (firstBreaking breaks e) h)
   where
-    none-found : (x : Option ℕ) → maybe {X = Option Fault} x none (λ j. some (record { number = 8; place = j })) ≡ none → x ≡ none
+    none-found : (x : Option ℕ) → maybe {X = Option Fault} x none (λ j. some (placed n j)) ≡ none → x ≡ none
     none-found none q = refl
     none-found (some j) q = absurd (let z : _≡_ {A = ℕ} 0 1 = cc in omega arith)
+
+pub masks-low : (e : List ℕ) → maskFault e ≡ none → (k : ℕ) → k < entries e → mask e k ≤ maskMost
+masks-low e h k l = ltb-false maskMost (mask e k) (none-breaks 8 badMask e h k l)
+
+-- as numbers, its entries have no host bits
+pub all-clean : (e : List ℕ) → maskFault e ≡ none → hostBitsFault e ≡ none → all isClean (entriesOf e) ≡ true
+unfolding isClean entryAt
+all-clean e low h = all-entries isClean e one
+  where
+    one : (k : ℕ) → k < entries e → isClean (entryAt e k) ≡ true
+    one k l =
+        let n = network e k in
+        let m = mask e k in
+        let small : m < 256 = omega (arith, masks-low e low k l) in
+        ap₂ (λ (x y : ℕ). eqb (hostBits x y) 0) (network-of n m small) (mask-of n m small) ∙ not-false (eqb (hostBits n m) 0) (none-breaks 16 hostBitsSet e h k l)

@@ -11,14 +11,14 @@ use lib.ListN.{length, length-drop}
 use Rattle.lists.specs.Lists.{maybe, all}
 use Rattle.lists.proofs.Tests.{and-left, and-right}
 use Rattle.wire.specs.declared.Fault.{Fault}
-use Rattle.wire.specs.Layout.{headerSize, entrySize, packetMost, maskMost, versionAt}
+use Rattle.wire.specs.Layout.{headerSize, entrySize, packetMost, versionAt}
 use Rattle.wire.specs.Packet.{octet, hna}
-use Rattle.wire.specs.Check.{given, firstOf, faultOf, entries, mask, maskFault, firstBadMask, hnaFaults, hnaFault, packetFaults, packetFault}
+use Rattle.wire.specs.Check.{placed, given, firstOf, faultOf, entries, firstBreaking, entryFault, badMask, hostBitsSet, hnaFaults, hnaFault, packetFaults, packetFault}
 use Rattle.wire.proofs.Search.{below}
 
 -- the last of the refusals that rest on a packet's octets
 abbrev pub numberMost : ℕ
-numberMost = 8
+numberMost = 16
 
 unfoldable isSmall : ℕ → Option Fault → Bool
 isSmall m x = maybe x true (λ f. leb (f .number) numberMost && leb (f .place) m)
@@ -32,16 +32,17 @@ first-small m (some f ∷ fs) h = and-left (leb (f .number) numberMost && leb (f
 
 given-small : (m : ℕ) (t : Bool) (n : ℕ) → n ≤ numberMost → isSmall m (given t n) ≡ true
 unfolding isSmall
-given-small m true n h = rw (le-leb n 8 h, le-leb 0 m (omega arith))
+given-small m true n h = rw (le-leb n numberMost h, le-leb 0 m (omega arith))
 given-small m false n h = refl
 
-mask-small : (e : List ℕ) → isSmall (length e) (maskFault e) ≡ true
-unfolding isSmall firstBadMask
-mask-small e = go (firstBadMask e) (below (λ j. ltb maskMost (mask e j)) (entries e))
+-- of an entry that breaks a rule
+entry-small : (n : ℕ) (breaks : List ℕ → ℕ → Bool) (e : List ℕ) → n ≤ numberMost → isSmall (length e) (entryFault n breaks e) ≡ true
+unfolding isSmall firstBreaking
+entry-small n breaks e l = go (firstBreaking breaks e) (below (breaks e) (entries e))
   where
-    go : (x : Option ℕ) → ((k : ℕ) → x ≡ some k → k < length e / entrySize) → isSmall (length e) (maybe x none (λ k. some (record { number = 8; place = k }))) ≡ true
+    go : (x : Option ℕ) → ((k : ℕ) → x ≡ some k → k < length e / entrySize) → isSmall (length e) (maybe x none (λ k. some (placed n k))) ≡ true
     go none h = refl
-    go (some k) h = le-leb k (length e) (omega (arith, h k refl))
+    go (some k) h = rw (le-leb n numberMost l, le-leb k (length e) (omega (arith, h k refl)))
 
 wider : (m n : ℕ) (x : Option Fault) → m ≤ n → isSmall m x ≡ true → isSmall n x ≡ true
 unfolding isSmall
@@ -51,7 +52,12 @@ wider m n (some f) l h =
 
 hna-small : (e : List ℕ) → isSmall (length e) (hnaFault e) ≡ true
 unfolding hnaFault
-hna-small e = first-small (length e) (hnaFaults e) (rw (given-small (length e) (not (eqb (length e % entrySize) 0)) 7 (omega arith), mask-small e))
+hna-small e =
+    first-small (length e) (hnaFaults e) (rw (
+      given-small (length e) (not (eqb (length e % entrySize) 0)) 7 (omega arith),
+      entry-small 8 badMask e (omega arith),
+      entry-small 16 hostBitsSet e (omega arith),
+    ))
 
 too-long : (v : ℕ) (p : List ℕ) → ltb packetMost (length p) ≡ true → isSmall packetMost (packetFault v p) ≡ true
 unfolding packetFault isSmall

@@ -1,20 +1,22 @@
 -- The laws of `specs/Laws.antt`. Assumes nothing.
-use mathlib.Core.Path.{_≡_, refl, _∙_, ap}
+use mathlib.Core.Path.{_≡_, refl, sym, _∙_, ap}
 use mathlib.Core.Bool.{Bool, true, false, cond, not}
 use mathlib.Core.List.{List, [], _∷_}
 use mathlib.Core.Option.{none}
 use Prim.Native.Nat.{ℕ, _+_, _-_, _*_, _/_, _%_, _≤_, _<_}
+use native.Mathlib.Nat.{mod-lt, mod-one, mod-eq-of-lt}
 use native.Mathlib.Omega.{arith}
 use borrow.Author.Tests.{le-ltb, eq-eqb}
-use lib.Dec.{ltb, eqb}
+use lib.Dec.{eqb}
 use lib.ListN.{length, set, length-set}
+use lib.Pow.{pow-pos, split}
 use lib.Seq.{getD-set-same, getD-set-other, drop-set-lt}
 use Rattle.wire.specs.declared.Header.{Header}
 use Rattle.wire.specs.Layout.{headerSize, entrySize, packetMost, maskMost, versionAt, flagsAt, ttlAt}
 use Rattle.wire.specs.Packet.{octet, header, hna, headerOctets, packetOf, isU, isD, unnamed}
-use Rattle.wire.specs.Check.{entries, mask, firstBadMask, hnaFault, packetFault, writtenFault}
+use Rattle.wire.specs.Check.{entries, network, mask, firstBreaking, badMask, hostBits, hostBitsSet, hnaFault, packetFault, writtenFault}
 use Rattle.wire.specs.PassOn.{flagsHere, flagsElsewhere, passedOn}
-use Rattle.wire.specs.Laws.{ReadsBack, Allowed, Copy, Flags}
+use Rattle.wire.specs.Laws.{ReadsBack, Allowed, HostBits, Copy, Flags}
 use Rattle.wire.proofs.Search.{nowhere}
 
 -- ---- a written packet
@@ -41,11 +43,28 @@ reads-back h e =
 no-remainder : (n : ℕ) → n ≡ entrySize * (n / entrySize) → n % entrySize ≡ 0
 no-remainder n e = omega arith
 
+-- where no entry breaks a rule, none is found
+none-found : (breaks : List ℕ → ℕ → Bool) (e : List ℕ) → ((k : ℕ) → k < entries e → breaks e k ≡ false) → firstBreaking breaks e ≡ none
+unfolding firstBreaking
+none-found breaks e h = nowhere (breaks e) (entries e) h
+
 pub allowed : (e : List ℕ) → Allowed e → writtenFault e ≡ none
-unfolding writtenFault hnaFault firstBadMask
+unfolding writtenFault hnaFault
 allowed e a =
-    let n : firstBadMask e ≡ none = nowhere (λ k. ltb maskMost (mask e k)) (entries e) (λ k l. le-ltb maskMost (mask e k) (a .masks k l)) in
-    rw (le-ltb (headerSize + length e) headerSize (omega arith), le-ltb packetMost (headerSize + length e) (a .few), eq-eqb (length e % entrySize) 0 (no-remainder (length e) (a .whole)), n)
+    let masks : firstBreaking badMask e ≡ none = none-found badMask e (λ k l. le-ltb maskMost (mask e k) (a .masks k l)) in
+    let clean : firstBreaking hostBitsSet e ≡ none = none-found hostBitsSet e (λ k l. ap not (eq-eqb (hostBits (network e k) (mask e k)) 0 (a .clean k l))) in
+    rw (le-ltb (headerSize + length e) headerSize (omega arith), le-ltb packetMost (headerSize + length e) (a .few), eq-eqb (length e % entrySize) 0 (no-remainder (length e) (a .whole)), masks, clean)
+
+-- ---- host bits
+
+pub host-bits : (n m : ℕ) → HostBits n m
+host-bits n m =
+    record {
+      joined = sym (split n (maskMost - m));
+      low = mod-lt n (pow-pos (maskMost - m));
+      mask32 = mod-one n;
+      mask0 = λ h. mod-eq-of-lt h;
+    }
 
 -- ---- a passed-on copy
 

@@ -8,11 +8,10 @@ use borrow.Author.Tests.{le-ltb, lt-ltb, eq-eqb, ne-eqb}
 use lib.ListN.{length}
 use Rattle.lists.specs.Lists.{maybe}
 use Rattle.wire.specs.declared.Fault.{Fault}
-use Rattle.wire.specs.declared.Place.{Place}
 use Rattle.wire.specs.declared.Place.the-variants.{At, Nowhere}
 use Rattle.wire.specs.Layout.{headerSize, entrySize, packetMost, versionAt}
 use Rattle.wire.specs.Packet.{octet, hna}
-use Rattle.wire.specs.Check.{numbered, faultOf, firstBadMask, hnaFault, packetFault, writtenFault}
+use Rattle.wire.specs.Check.{numbered, placed, faultOf, firstBreaking, badMask, hostBitsSet, hnaFault, packetFault, writtenFault}
 use Rattle.wire.specs.Place.{placeOf}
 
 -- the last of a list stands for itself
@@ -20,24 +19,37 @@ last : (x : Option Fault) → faultOf x ≡ faultOf (maybe {X = Option Fault} x 
 last none = refl
 last (some f) = refl
 
--- ---- of HNA octets
+-- a place that was answered, or none, is the one that was asked for
+found-at : (x : Option ℕ) (k : ℕ) → At k ≡ placeOf x → x ≡ some k
+found-at none k p = absurd (let z : _≡_ {A = ℕ} 0 1 = cc in omega arith)
+found-at (some j) k p = cc
 
--- what the first bad mask's place says
-abbrev pub fault-at : Place → Fault
-fault-at Nowhere = numbered 0
-fault-at (At k) = record { number = 8; place = k }
+found-nowhere : (x : Option ℕ) → Nowhere ≡ placeOf x → x ≡ none
+found-nowhere none p = refl
+found-nowhere (some j) p = absurd (let z : _≡_ {A = ℕ} 0 1 = cc in omega arith)
+
+-- ---- of HNA octets
 
 pub ragged : (e : List ℕ) → (length e % entrySize ≡ 0 → ⊥) → numbered 7 ≡ faultOf (hnaFault e)
 unfolding hnaFault
 ragged e n = rw (ne-eqb (length e % entrySize) 0 n)
 
-pub whole : (e : List ℕ) → length e % entrySize ≡ 0 → (o : Place) → o ≡ placeOf (firstBadMask e) → fault-at o ≡ faultOf (hnaFault e)
-unfolding hnaFault
-whole e z o p = rw (eq-eqb (length e % entrySize) 0 z, p) (go (firstBadMask e))
-  where
-    go : (x : Option ℕ) → fault-at (placeOf x) ≡ faultOf (maybe {X = Option Fault} (maybe x none (λ k. some (record { number = 8; place = k }))) none some)
-    go none = refl
-    go (some k) = refl
+-- of whole entries: those that break a rule are looked for by each rule in turn
+module _ (e : List ℕ) (z : length e % entrySize ≡ 0) where
+  pub mask-found : (k : ℕ) → At k ≡ placeOf (firstBreaking badMask e) → placed 8 k ≡ faultOf (hnaFault e)
+  unfolding hnaFault
+  mask-found k p = rw (eq-eqb (length e % entrySize) 0 z, found-at (firstBreaking badMask e) k p)
+
+  module _ (masks : Nowhere ≡ placeOf (firstBreaking badMask e)) where
+    pub host-bits-found : (k : ℕ) → At k ≡ placeOf (firstBreaking hostBitsSet e) → placed 16 k ≡ faultOf (hnaFault e)
+    unfolding hnaFault
+    host-bits-found k p =
+        rw (eq-eqb (length e % entrySize) 0 z, found-nowhere (firstBreaking badMask e) masks, found-at (firstBreaking hostBitsSet e) k p)
+
+    pub none-found : Nowhere ≡ placeOf (firstBreaking hostBitsSet e) → numbered 0 ≡ faultOf (hnaFault e)
+    unfolding hnaFault
+    none-found p =
+        rw (eq-eqb (length e % entrySize) 0 z, found-nowhere (firstBreaking badMask e) masks, found-nowhere (firstBreaking hostBitsSet e) p)
 
 -- ---- of a received packet
 

@@ -1,5 +1,5 @@
--- What RULES 6.7 and 7.2 say of written octets in other words than the definitions; `proofs/Laws.antt` proves each.
-use Prim.Native.Nat.{ℕ, _+_, _-_, _*_, _<_, _≤_}
+-- What RULES 3.5, 6.7 and 7.2 say of written octets in other words than the definitions; `proofs/Laws.antt` proves each.
+use Prim.Native.Nat.{ℕ, _+_, _-_, _*_, _/_, _^_, _<_, _≤_}
 use mathlib.Core.Path.{_≡_}
 use mathlib.Core.Bool.{Bool, false, not}
 use mathlib.Core.List.{List}
@@ -7,7 +7,7 @@ use lib.ListN.{length}
 use Rattle.wire.specs.declared.Header.{Header}
 use Rattle.wire.specs.Layout.{headerSize, entrySize, packetMost, maskMost, flagsAt, ttlAt}
 use Rattle.wire.specs.Packet.{octet, header, hna, packetOf, isU, isD, unnamed}
-use Rattle.wire.specs.Check.{entries, mask, packetFault, writtenFault}
+use Rattle.wire.specs.Check.{entries, network, mask, hostBits, packetFault, writtenFault}
 use Rattle.wire.specs.PassOn.{flagsHere, flagsElsewhere, passedOn}
 
 -- a written packet, read by the layout, gives back the fields given
@@ -18,11 +18,20 @@ pub record ReadsBack (h : Header) (e : List ℕ) : Type 0 where
   -- the packet check finds of it what is asked before it is written
   pub check : packetFault (h .version) (packetOf h e) ≡ writtenFault e
 
--- which is nothing if the entries are few enough and whole, and no mask is above 32 (`allowed` proves this direction)
+-- which is nothing if the entries are few enough and whole, no mask is above 32 and no host bit is set (`allowed` proves this direction)
 pub record Allowed (e : List ℕ) : Type 0 where
   pub few : headerSize + length e ≤ packetMost
   pub whole : length e ≡ entrySize * entries e
   pub masks : (k : ℕ) → k < entries e → mask e k ≤ maskMost
+  pub clean : (k : ℕ) → k < entries e → hostBits (network e k) (mask e k) ≡ 0
+
+-- an address is what its leading bits say, as many as the mask says, and below them its host bits
+pub record HostBits (n m : ℕ) : Type 0 where
+  pub joined : n ≡ n / 2 ^ (maskMost - m) * 2 ^ (maskMost - m) + hostBits n m
+  pub low : hostBits n m < 2 ^ (maskMost - m)
+  -- so mask 32 leaves none, and of mask 0 all bits are host bits
+  pub mask32 : hostBits n maskMost ≡ 0
+  pub mask0 : n < 2 ^ maskMost → hostBits n 0 ≡ n
 
 -- a passed-on copy differs from the packet p in octets 1 and 2 alone
 pub record Copy (flags : ℕ) (p : List ℕ) : Type 0 where

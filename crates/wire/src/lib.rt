@@ -2,7 +2,7 @@
 pub mod refusals;
 
 ghost use mathlib.Core.Path.{_≡_};
-ghost use Rattle.wire.specs.Check.{numbered};
+ghost use Rattle.wire.specs.Check.{numbered, placed};
 
 // The originator message with which a packet begins.
 #[repr(C)]
@@ -16,7 +16,7 @@ pub struct Header {
     pub originator: u32,
 }
 
-// A refusal: its number, and the place that 8 carries, else 0. Both are 0 where there is none.
+// A refusal: its number, and the place that 8 and 16 carry, else 0. Both are 0 where there is none.
 pub struct Fault {
     pub number: u64,
     pub place: u64,
@@ -45,4 +45,14 @@ pub fn refusal(number: u64) -> Fault
     ensures { λ r. ⌜ r ≡ numbered number ⌝ }
 {
     Fault { number, place: 0 }
+}
+
+// A refusal that carries the place of an entry.
+pub fn refusal_at(number: u64, k: usize) -> Fault
+    ensures { λ r. ⌜ r ≡ placed number k ⌝ }
+{
+    Fault {
+        number,
+        place: k as u64,
+    }
 }

@@ -28,3 +28,5 @@ pub const TTL_TOO_LOW: u64 = 13;
 pub const WRONG_BURST: u64 = 14;
 
 pub const ENTRIES_FULL: u64 = 15;
+
+pub const HOST_BITS_SET: u64 = 16;

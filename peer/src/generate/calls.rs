@@ -111,6 +111,9 @@ impl Generator<'_> {
         let number = self.random.next() as u16;
         let originator = self.address();
         let mut packet = self.packet(flags, ttl, number, originator);
+        if self.random.chance(200) {
+            self.set_host_bits_in(&mut packet);
+        }
         self.spoil_packet(&mut packet);
         let table = self.settings().version;
         let version = self.random.pick(&[

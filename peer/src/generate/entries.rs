@@ -1,9 +1,12 @@
-//! HNA entries of few networks that lie in each other, and lookups at the networks' edges.
+//! HNA entries of few networks that lie in each other, faults among them, and lookups at the
+//! networks' edges.
 
 use super::stage::Kind;
 use super::Generator;
 use crate::book::ENTRIES_MOST;
-use crate::packet::{Entry, HNA_OCTETS, MASK_MOST};
+use crate::packet::{
+    highest_host_bit, host_bits, lowest_network_bit, Entry, HEADER_OCTETS, HNA_OCTETS, MASK_MOST,
+};
 
 /// Addresses whose networks are announced, by masks of several lengths.
 const POINTS: [u32; 8] = [
@@ -20,11 +23,6 @@ const POINTS: [u32; 8] = [
 /// The most entries that a packet has room for.
 const PACKET_ENTRIES: u64 = 292;
 
-/// The bits of an address that a mask leaves aside.
-fn below(mask: u8) -> u32 {
-    ((1_u64 << (MASK_MOST - mask)) - 1) as u32
-}
-
 impl Generator<'_> {
     /// HNA octets without a fault in them.
     pub(super) fn hna(&mut self) -> Vec<u8> {
@@ -39,11 +37,7 @@ impl Generator<'_> {
             let before = self.random.pick_any(&entries);
             entries.push(self.entry(before));
         }
-        let octets = |entry: &Entry| {
-            let [a, b, c, d] = entry.network.to_be_bytes();
-            [a, b, c, d, entry.mask]
-        };
-        entries.iter().flat_map(octets).collect()
+        entries.iter().flat_map(Entry::octets).collect()
     }
 
     /// How many entries a packet has: often about as many as a record keeps.
@@ -66,17 +60,13 @@ impl Generator<'_> {
         }
     }
 
-    /// An entry; at times an earlier one of its packet again, as it was or with other bits below
-    /// the mask.
+    /// An entry; at times an earlier one of its packet again.
     fn entry(&mut self, before: Option<Entry>) -> Entry {
-        let roll = self.random.below(100);
         match before {
-            Some(entry) if roll < 10 => entry,
-            Some(entry) if roll < 25 => self.announced(entry.network, entry.mask),
+            Some(entry) if self.random.chance(120) => entry,
             _ => {
-                let point = self.random.pick(&POINTS);
                 let mask = self.mask();
-                self.announced(point, mask)
+                self.announced(mask)
             }
         }
     }
@@ -94,30 +84,79 @@ impl Generator<'_> {
         }
     }
 
-    /// The network of an address, its bits below the mask zero or not.
-    fn announced(&mut self, address: u32, mask: u8) -> Entry {
-        let below = below(mask);
-        let any = self.random.next() as u32;
-        let bits = self.random.pick(&[0, 0, address, any, u32::MAX]);
-        let network = address & !below | bits & below;
+    /// A network with this mask, at times with its lowest bit set.
+    fn announced(&mut self, mask: u8) -> Entry {
+        let point = self.random.pick(&POINTS);
+        let mut network = point & !host_bits(mask);
+        if self.random.chance(120) {
+            network |= lowest_network_bit(mask);
+        }
         Entry { network, mask }
     }
 
-    /// At times breaks HNA octets: ragged, or one or two masks above 32.
+    /// At times breaks HNA octets: one or two entries with host bits, one or two masks above 32,
+    /// or ragged.
     pub(super) fn spoil_hna(&mut self, hna: &mut Vec<u8>) {
+        let masks = self.random.chance(14);
+        let bits = self.random.chance(if masks { 500 } else { 25 });
+        if masks && bits {
+            // Room for both, so that either may stand first.
+            hna.extend(self.hna_of(2));
+        }
+        if bits {
+            self.set_host_bits(hna);
+        }
+        if masks {
+            for _ in 0..1 + self.random.below(2) {
+                let mask = self.random.pick(&[33, 33, 64, 128, 255]);
+                self.some_entry(hna)[HNA_OCTETS - 1] = mask;
+            }
+        }
         if self.random.chance(14) {
             let more = 1 + self.random.below(4);
             hna.extend((0..more).map(|_| 255));
         }
-        if self.random.chance(14) {
-            if hna.len() < HNA_OCTETS {
-                hna.extend_from_slice(&[10, 0, 0, 0, 8]);
-            }
-            for _ in 0..1 + self.random.below(2) {
-                let entry = self.random.below((hna.len() / HNA_OCTETS) as u64) as usize;
-                hna[HNA_OCTETS * entry + 4] = self.random.pick(&[33, 33, 64, 128, 255]);
-            }
+    }
+
+    /// Gives host bits to one entry of HNA octets or to two.
+    pub(super) fn set_host_bits(&mut self, hna: &mut Vec<u8>) {
+        for _ in 0..self.random.pick(&[1, 1, 2]) {
+            let octets = self.with_host_bits().octets();
+            self.some_entry(hna).copy_from_slice(&octets);
         }
+    }
+
+    /// The same in a packet.
+    pub(super) fn set_host_bits_in(&mut self, packet: &mut Vec<u8>) {
+        let mut hna = packet.split_off(HEADER_OCTETS);
+        self.set_host_bits(&mut hna);
+        packet.extend(hna);
+    }
+
+    /// The octets of the first entry, the last or any; where there is none, one is made.
+    fn some_entry<'a>(&mut self, hna: &'a mut Vec<u8>) -> &'a mut [u8] {
+        if hna.len() < HNA_OCTETS {
+            hna.extend(self.hna_of(1));
+        }
+        let last = (hna.len() / HNA_OCTETS) as u64 - 1;
+        let any = self.random.below(last + 1);
+        let place = self.random.pick(&[0, any, last]) as usize;
+        &mut hna[place * HNA_OCTETS..][..HNA_OCTETS]
+    }
+
+    /// An entry with the lowest host bit, the highest, any or all, of any mask that has some.
+    fn with_host_bits(&mut self) -> Entry {
+        let any_mask = self.random.below(u64::from(MASK_MOST)) as u8;
+        let mask = self
+            .random
+            .pick(&[0, any_mask, any_mask, any_mask, any_mask]);
+        let mut entry = self.announced(mask);
+        let any = self.random.next() as u32;
+        let bits = self
+            .random
+            .pick(&[1, highest_host_bit(mask), any, u32::MAX]);
+        entry.network |= bits & host_bits(mask);
+        entry
     }
 
     pub(super) fn lookup(&mut self) {
@@ -146,14 +185,14 @@ impl Generator<'_> {
 
     /// An address at an edge of an entry's network, inside or one beyond.
     fn edge(&mut self, entry: Entry) -> u32 {
-        let below = below(entry.mask);
-        let (first, last) = (entry.network & !below, entry.network | below);
+        let below = host_bits(entry.mask);
+        let (first, last) = (entry.network, entry.network | below);
         let inside = first | self.random.next() as u32 & below;
         self.random.pick(&[
             first,
             last,
             inside,
-            entry.network,
+            inside,
             first.wrapping_sub(1),
             last.wrapping_add(1),
         ])

@@ -233,14 +233,24 @@ impl Generator<'_> {
     }
 
     fn receive_packet(&mut self, link: Link, packet: Vec<u8>) {
-        let arrival = Receive {
+        let mut arrival = Receive {
             interface: u64::from(link.interface),
             sender: link.neighbour,
             time: self.now(),
-            output: self.output(packet.len()),
+            output: packet.len() as u64,
             packet,
         };
+        if self.random.chance(200) && self.lacks_room(&arrival) {
+            self.set_host_bits_in(&mut arrival.packet);
+        }
+        arrival.output = self.output(arrival.packet.len());
         self.receive(arrival);
+    }
+
+    /// Whether a packet has no fault and is refused for lack of room, which 16 comes before.
+    fn lacks_room(&self, arrival: &Receive) -> bool {
+        let judged = self.book().clone().receive(arrival);
+        judged.is_err_and(|refusal| [9, 10, 11, 15].contains(&refusal.number))
     }
 
     pub(super) fn own_on(&mut self, interface: u64) {
@@ -250,17 +260,21 @@ impl Generator<'_> {
         }
         let mut hna = self.hna();
         self.spoil_hna(&mut hna);
+        let ttl = match self.random.below(40) {
+            0 => 0,
+            1..3 => 1,
+            3..9 => 2,
+            9..13 => 255,
+            _ => 50,
+        };
+        // 16 comes before 13.
+        if ttl < 2 && self.random.chance(350) {
+            self.set_host_bits(&mut hna);
+        }
         if self.random.chance(5) {
             let length = self.random.pick(&[1461, 1465, 1466, 2000]);
             hna.resize(length, 0);
         }
-        let ttl = match self.random.below(40) {
-            0 => 0,
-            1 => 1,
-            2..8 => 2,
-            8..12 => 255,
-            _ => 50,
-        };
         let output = self.output(HEADER_OCTETS + hna.len());
         let interface = self.spoil_interface(interface);
         let now = self.now();

@@ -47,8 +47,8 @@ impl Generator<'_> {
             310..450 => Kind::Runs,
             450..630 => Kind::Ties,
             630..730 => Kind::Entries,
-            730..800 => Kind::Neighbours,
-            800..975 => Kind::Timeout,
+            730..825 => Kind::Neighbours,
+            825..975 => Kind::Timeout,
             975..997 => Kind::Full,
             _ => Kind::LongTimeout,
         }

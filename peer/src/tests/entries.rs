@@ -2,8 +2,11 @@
 
 use super::*;
 use crate::book::ENTRIES_MOST;
-use crate::counts::{ELEVEN_FIRST, ENTRY, FOUND, LEFT, NONE, ORIGINATOR, TEN_FIRST};
+use crate::counts::{CLEAN_LOWEST, FOUND, LEFT, NONE, ORIGINATOR};
+use crate::lookup::located;
 use crate::packet::Entry;
+
+mod host_bits;
 
 type Announced = (u32, u8);
 
@@ -90,6 +93,26 @@ fn cell((network, mask): Announced) -> u64 {
 fn holds(lines: &[String], entries: &[Announced]) -> bool {
     let expected: Vec<u64> = entries.iter().copied().map(cell).collect();
     held_after(&after(lines)) == (entries.len() as u64, expected)
+}
+
+/// A book whose record of FAR holds these entries, which no packet need bring.
+fn book_holding(entries: &[Announced]) -> Book {
+    let mut player = Player::new();
+    follow(&mut player, &after(&[by_far(300, &[])]));
+    let mut book = player.book.expect("a book");
+    let list = book.lists.get_mut(&FAR).expect("a record");
+    let entry = |(network, mask): &Announced| Entry {
+        network: *network,
+        mask: *mask,
+    };
+    list[0].entries = entries.iter().map(entry).collect();
+    book
+}
+
+/// The entry that a lookup of this book finds.
+fn located_in(book: &Book, address: u32) -> Option<Announced> {
+    let found = located(&book.covering(address))?;
+    Some((found.entry.network, found.entry.mask))
 }
 
 #[test]
@@ -349,46 +372,32 @@ fn of_equal_masks_the_smaller_originator_is_found() {
 
 #[test]
 fn then_the_earlier_entry_is_found() {
-    // One network in three ways.
+    // Entries of packets are then equal; held ones may differ in their host bits.
     let ways = [(0x0a01_0207, 24), (0x0a01_0200, 24), (0x0a01_02ff, 24)];
     for first in 0..ways.len() {
         let mut list = ways;
         list.rotate_left(first);
-        let lines = [by_far(300, &[&[YARD], list.as_slice()].concat())];
-        assert_eq!(looked_up(&lines, PRINTER), found(FAR, ways[first]));
+        let book = book_holding(&[&[YARD], list.as_slice()].concat());
+        assert_eq!(located_in(&book, PRINTER), Some(ways[first]));
     }
     // A later entry of the smaller originator is before an earlier one of the greater.
     let lines = [
-        by_far(300, &[YARD, HALL, ways[0]]),
-        message(A, FARTHER, 300, &[ways[1]]),
+        by_far(300, &[YARD, HALL, ROOM]),
+        message(A, FARTHER, 300, &[ROOM]),
     ];
-    assert_eq!(looked_up(&lines, PRINTER), found(FAR, ways[0]));
+    assert_eq!(looked_up(&lines, PRINTER), found(FAR, ROOM));
 }
 
 #[test]
 fn mask_0_covers_every_address() {
-    for network in [0, PRINTER, u32::MAX] {
-        let lines = [by_far(300, &[(network, 0)])];
-        for address in [0, 1, PRINTER, 1 << 31, u32::MAX] {
-            assert_eq!(looked_up(&lines, address), found(FAR, (network, 0)));
-        }
+    let all = by_far(300, &[(0, 0)]);
+    for address in [0, 1, PRINTER, 1 << 31, u32::MAX] {
+        assert_eq!(looked_up(&[all.clone()], address), found(FAR, (0, 0)));
     }
     // Any other mask is longer.
-    let lines = [by_far(300, &[(0, 0)]), message(A, FARTHER, 300, &[(0, 1)])];
+    let lines = [all, message(A, FARTHER, 300, &[(0, 1)])];
     assert_eq!(looked_up(&lines, 0x7fff_ffff), found(FARTHER, (0, 1)));
     assert_eq!(looked_up(&lines, 1 << 31), found(FAR, (0, 0)));
-}
-
-#[test]
-fn bits_below_the_mask_do_not_matter_and_are_answered_as_announced() {
-    let sloppy = (0x0a01_0207, 16);
-    let lines = [by_far(300, &[sloppy])];
-    for address in [0x0a01_0000, PRINTER, 0x0a01_ffff] {
-        assert_eq!(looked_up(&lines, address), found(FAR, sloppy));
-    }
-    for address in [0x0a00_ffff, 0x0a02_0000, 0x8a01_0207] {
-        assert_eq!(looked_up(&lines, address), NOT_FOUND);
-    }
 }
 
 #[test]
@@ -521,9 +530,10 @@ fn one_cell_of_entries_breaks_a_table() {
         broken[index] = value;
         assert!(!cells::well_formed(&broken), "cell {index} set to {value}");
     }
-    // The highest entry, a zero one, and one more that is zero are well-formed.
+    // The highest entry, one with host bits, a zero one, and one more that is zero are well-formed.
     for (cells, index, value) in [
         (&cells, first, (1 << 40) - 256 + 32),
+        (&cells, first, cell((PRINTER, 16))),
         (&cells, first, 0),
         (&cells, held, 3),
         (&cells, held, 16),
@@ -538,15 +548,13 @@ fn one_cell_of_entries_breaks_a_table() {
 #[test]
 fn what_lookups_met_is_counted() {
     let same = by_far(300, &[ROOM, ROOM]);
-    let differ = by_far(300, &[ROOM, (PRINTER, 24)]);
     let other = message(A, FARTHER, 300, &[ROOM]);
-    let shorter = message(A, FARTHER, 300, &[HALL, (PRINTER, 16)]);
-    let cases: [(&[&str], Vec<String>); 5] = [
+    let shorter = message(A, FARTHER, 300, &[YARD]);
+    let cases: [(&[&str], Vec<String>); 4] = [
         (&[NONE], vec![]),
         (&[FOUND], vec![same.clone()]),
-        (&[FOUND, ENTRY], vec![differ.clone()]),
-        (&[FOUND, ORIGINATOR], vec![same, other]),
-        (&[FOUND, ENTRY], vec![differ, shorter]),
+        (&[FOUND, ORIGINATOR], vec![same.clone(), other]),
+        (&[FOUND], vec![same, shorter]),
     ];
     for (words, mut lines) in cases {
         let mut player = Player::new();
@@ -562,11 +570,17 @@ fn what_too_many_entries_met_is_counted() {
     let many = by_far(300, &too_many());
     let cases: [(&[&str], Vec<String>); 5] = [
         (&[], ended(vec![], many.clone())),
-        (&[LEFT], ended(vec![by_far(301, &[])], many.clone())),
-        (&[TEN_FIRST], ended(originators(), many)),
-        (&[STAYS, ELEVEN_FIRST], ended(eight_links(), by_ninth(301))),
+        (
+            &[LEFT, CLEAN_LOWEST],
+            ended(vec![by_far(301, &[])], many.clone()),
+        ),
+        (&["10-15"], ended(originators(), many)),
+        (
+            &[STAYS, CLEAN_LOWEST, "11-15"],
+            ended(eight_links(), by_ninth(301)),
+        ),
         // 300 would leave the list.
-        (&[STAYS], ended(eight_links(), by_ninth(300))),
+        (&[STAYS, CLEAN_LOWEST], ended(eight_links(), by_ninth(300))),
     ];
     for (words, lines) in cases {
         let mut player = Player::new();

@@ -1,0 +1,3 @@
+-- What HNA entries are held to, and what is refused before them.
+pub mod Entries
+pub mod Head
