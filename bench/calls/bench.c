@@ -20,7 +20,7 @@ enum {
     MOST = 256,        /* originators */
     CALLS_MOST = 1024, /* in a slice */
     COPIES_MOST = 32,
-    CHECKED = 12 + 5 * 10, /* octets of the packet that is only checked */
+    ENTRIES_CHECKED = 292, /* of the packets that are only checked, at most */
     PURGE = 2000000000,
     FILLING = 100 /* numbers of each originator before anything is timed */
 };
@@ -50,6 +50,8 @@ struct slice {
     struct arrival arrival[CALLS_MOST];
     unsigned calls, burst; /* how many in all, and of how many packets a burst is */
     uint64_t time;
+    unsigned entries; /* of the packet that is only checked */
+    uint8_t checked[12 + 5 * ENTRIES_CHECKED];
     uint8_t octets[CALLS_MOST][PACKET];
     uint64_t lengths[CALLS_MOST], interfaces[CALLS_MOST];
     uint32_t senders[CALLS_MOST];
@@ -325,11 +327,10 @@ static uint64_t play_lookup(const struct version *v, struct mesh *m, int place, 
 
 static uint64_t play_check(const struct version *v, struct mesh *m, int place, const struct slice *s)
 {
-    static const uint8_t packet[CHECKED] = {4, 0, 50};
     uint64_t sum = 0;
     (void)m, (void)place;
     for (unsigned i = 0; i < s->calls; i++)
-        sum += v->packet_check(packet, sizeof packet, 4);
+        sum += v->packet_check(s->checked, 12 + 5 * s->entries, 4);
     return sum;
 }
 
@@ -368,6 +369,17 @@ static void prepare_time(struct mesh *m, struct slice *s)
     s->time = m->time;
 }
 
+/* Entries without fault: every bit above the mask set, masks of 8 to 32. */
+static void prepare_check(struct mesh *m, struct slice *s)
+{
+    (void)m;
+    s->checked[0] = 4;
+    for (unsigned k = 0; k < s->entries; k++) {
+        uint8_t mask = (uint8_t)(8 + k % 25);
+        write_entry(s->checked + 12 + 5 * k, UINT32_MAX << (32 - mask), mask);
+    }
+}
+
 static void prepare_copies(struct mesh *m, struct slice *s)
 {
     s->calls = m->copies;
@@ -378,27 +390,30 @@ static void prepare_copies(struct mesh *m, struct slice *s)
 /* ---- timing */
 
 /* The rows, as docs/BENCHMARK.md shows them: those of bursts in a table of their own. */
-enum { RELAYED, TIES, DIRECT, OWN, SWEEP, BEST, LOOKUP, CHECK, SWEEP_ONE, FIRST, BURST_8, BURST_32, ROWS };
+enum { RELAYED, TIES, DIRECT, OWN, SWEEP, BEST, LOOKUP, CHECK_2, CHECK_16, CHECK_292, SWEEP_ONE, FIRST, BURST_8, BURST_32, ROWS };
 
 static const struct row {
     const char *name;
     prepare *prepare;
     play *play;
     bool on_copies;
-    unsigned burst; /* packets of a burst, or 0 */
+    unsigned burst;   /* packets of a burst, or 0 */
+    unsigned entries; /* of a packet that is only checked, or 0 */
 } rows[ROWS] = {
-    [RELAYED] = {"receive, relayed", prepare_relayed, play_receive, false, 0},
-    [TIES] = {"receive, relayed, ties stay", prepare_relayed, play_receive, false, 0},
-    [DIRECT] = {"receive, direct", prepare_direct, play_receive, false, 0},
-    [OWN] = {"own packet, 2 HNA entries", prepare_time, play_own, false, 0},
-    [SWEEP] = {"sweep, none removed", prepare_time, play_sweep, false, 0},
-    [BEST] = {"best question", prepare_time, play_best, false, 0},
-    [LOOKUP] = {"lookup", prepare_time, play_lookup, false, 0},
-    [CHECK] = {"packet check, 62 octets", prepare_time, play_check, false, 0},
-    [SWEEP_ONE] = {"sweep, one removed", prepare_copies, play_sweep_one, true, 0},
-    [FIRST] = {"receive, first of originator", prepare_copies, play_first, true, 0},
-    [BURST_8] = {"burst of 8, a packet", prepare_bursts, play_bursts, false, 8},
-    [BURST_32] = {"burst of 32, a packet", prepare_bursts, play_bursts, false, 32},
+    [RELAYED] = {"receive, relayed", prepare_relayed, play_receive, false, 0, 0},
+    [TIES] = {"receive, relayed, ties stay", prepare_relayed, play_receive, false, 0, 0},
+    [DIRECT] = {"receive, direct", prepare_direct, play_receive, false, 0, 0},
+    [OWN] = {"own packet, 2 HNA entries", prepare_time, play_own, false, 0, 0},
+    [SWEEP] = {"sweep, none removed", prepare_time, play_sweep, false, 0, 0},
+    [BEST] = {"best question", prepare_time, play_best, false, 0, 0},
+    [LOOKUP] = {"lookup", prepare_time, play_lookup, false, 0, 0},
+    [CHECK_2] = {"packet check, 2 entries", prepare_check, play_check, false, 0, 2},
+    [CHECK_16] = {"packet check, 16 entries", prepare_check, play_check, false, 0, 16},
+    [CHECK_292] = {"packet check, 292 entries", prepare_check, play_check, false, 0, ENTRIES_CHECKED},
+    [SWEEP_ONE] = {"sweep, one removed", prepare_copies, play_sweep_one, true, 0, 0},
+    [FIRST] = {"receive, first of originator", prepare_copies, play_first, true, 0, 0},
+    [BURST_8] = {"burst of 8, a packet", prepare_bursts, play_bursts, false, 8, 0},
+    [BURST_32] = {"burst of 32, a packet", prepare_bursts, play_bursts, false, 32, 0},
 };
 
 /* What each player took, in nanoseconds. */
@@ -451,6 +466,7 @@ static void time_row(struct mesh *m, int row)
         uint64_t sum[PLAYERS];
         s.calls = m->calls;
         s.burst = r->burst;
+        s.entries = r->entries;
         r->prepare(m, &s);
         for (int turn = 0; turn < players; turn++) {
             int v = (turn + i) % players;
@@ -486,7 +502,7 @@ static void same_cells(const struct mesh *m)
 
 static void time_mesh(int size)
 {
-    static const int steady[] = {RELAYED, BURST_8, BURST_32, DIRECT, OWN, SWEEP, BEST, LOOKUP, CHECK};
+    static const int steady[] = {RELAYED, BURST_8, BURST_32, DIRECT, OWN, SWEEP, BEST, LOOKUP, CHECK_2, CHECK_16, CHECK_292};
     static struct mesh m;
     open_mesh(&m, size, BATMAN_NEWEST_WINS); /* as it was before there was a choice: these rows stay comparable */
     for (size_t i = 0; i < sizeof steady / sizeof *steady; i++)

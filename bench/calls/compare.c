@@ -163,12 +163,16 @@ static uint32_t draw_network(void)
     return network;
 }
 
+/* Host bits are mostly cleared; of the others some are zero by themselves. */
 static void draw_entry(uint8_t *entry)
 {
     uint32_t network = draw_network();
+    uint8_t mask = (uint8_t)(seldom(4) ? below(33) : 17 + below(16));
+    if (!seldom(25))
+        network &= (uint32_t)((uint64_t)UINT32_MAX << (32 - mask));
     for (int i = 3; i >= 0; i--, network >>= 8)
         entry[i] = (uint8_t)network;
-    entry[4] = (uint8_t)(seldom(4) ? below(33) : 17 + below(16));
+    entry[4] = mask;
 }
 
 /* Octets that are a packet, or HNA entries alone, with a fault now and then: few entries, or about as many as are held. */
@@ -458,9 +462,9 @@ static bool came(const unsigned long *answers, int from, int to, const char *to_
 
 static bool every_number_came(const struct players *p)
 {
-    return came(p->by_number, 0, BATMAN_ENTRIES_FULL, "call") && came(p->by_number, BATMAN_OWN_SENDER, BATMAN_PASSED_ON, "call") &&
+    return came(p->by_number, 0, BATMAN_HOST_BITS_SET, "call") && came(p->by_number, BATMAN_OWN_SENDER, BATMAN_PASSED_ON, "call") &&
            came(p->in_bursts, BATMAN_NOT_IN_USE, BATMAN_LINKS_FULL, "packet of a burst") &&
-           came(p->in_bursts, BATMAN_ENTRIES_FULL, BATMAN_ENTRIES_FULL, "packet of a burst") &&
+           came(p->in_bursts, BATMAN_ENTRIES_FULL, BATMAN_HOST_BITS_SET, "packet of a burst") &&
            came(p->in_bursts, BATMAN_OWN_SENDER, BATMAN_PASSED_ON, "packet of a burst");
 }
 

@@ -13,13 +13,33 @@ struct fault {
     uint64_t number, place;
 };
 
+static inline uint16_t read2(const uint8_t *p) { return (uint16_t)(p[0] << 8 | p[1]); }
+static inline uint32_t read4(const uint8_t *p) { return (uint32_t)p[0] << 24 | (uint32_t)p[1] << 16 | (uint32_t)p[2] << 8 | p[3]; }
+
+/* Whether an address has bits below the mask, of 0 to 32. In 64 bits, so that mask 32 leaves none. */
+static inline bool has_host_bits(uint32_t network, uint8_t mask) { return (uint32_t)((uint64_t)network << mask) != 0; }
+
+static inline bool entry_faulty(const uint8_t *entry) { return entry[MASK_AT] > MASK_MOST || has_host_bits(read4(entry), entry[MASK_AT]); }
+
+/* Which fault whole entries have, and where: a mask above 32 goes first, wherever it stands. Out of the way of packets without one. */
+static __attribute__((noinline)) struct fault entries_fault(const uint8_t *hna, size_t length)
+{
+    for (size_t at = 0; at < length; at += ENTRY)
+        if (hna[at + MASK_AT] > MASK_MOST)
+            return (struct fault){8, at / ENTRY};
+    for (size_t at = 0; at < length; at += ENTRY)
+        if (entry_faulty(hna + at))
+            return (struct fault){16, at / ENTRY};
+    return (struct fault){0, 0};
+}
+
 static inline struct fault hna_fault(const uint8_t *hna, size_t length)
 {
     if (length % ENTRY != 0)
         return (struct fault){7, 0};
-    for (size_t at = MASK_AT; at < length; at += ENTRY)
-        if (hna[at] > MASK_MOST)
-            return (struct fault){8, at / ENTRY};
+    for (size_t at = 0; at < length; at += ENTRY)
+        if (entry_faulty(hna + at))
+            return entries_fault(hna, length);
     return (struct fault){0, 0};
 }
 
@@ -49,9 +69,6 @@ static inline struct fault written_fault(const uint8_t *hna, size_t length, uint
         f.number = 13;
     return f;
 }
-
-static inline uint16_t read2(const uint8_t *p) { return (uint16_t)(p[0] << 8 | p[1]); }
-static inline uint32_t read4(const uint8_t *p) { return (uint32_t)p[0] << 24 | (uint32_t)p[1] << 16 | (uint32_t)p[2] << 8 | p[3]; }
 
 /* How many HNA entries a packet of this length has. */
 static inline size_t entries_in(size_t length) { return (length - HEADER) / ENTRY; }
