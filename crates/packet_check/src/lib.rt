@@ -188,7 +188,7 @@ pub fn written_fault(hna: &[u8]) -> Fault
 }
 
 // The check's answer as one number: 0, or the refusal and 256 times its place. It goes the way of `packet_fault` by itself: over that function's answer, which
-// comes back in memory, the check of a small packet takes a fifth longer.
+// comes back in memory, the check of a small packet takes up to half as long again (docs/BENCHMARK.md, 16).
 pub fn packet_check(packet: &[u8], version: u64) -> u64
     ensures { λ r. ⌜ r ≡ C.packetCheck version (now (packet .entry)) ⌝ }
 {
