@@ -33,12 +33,20 @@ fn read2(packet: &[u8], at: usize) -> u16
     pair(packet[at], packet[at + 1])
 }
 
+// As one sum of four: LLVM then reads them as one word, also where the number is shifted further.
+fn quad(a: u8, b: u8, c: u8, d: u8) -> u32
+    ensures { λ r. ⌜ r ≡ (a * 256 + b) * 65536 + (c * 256 + d) ⌝ }
+{
+    (a as u32) * 16777216 + (b as u32) * 65536 + (c as u32) * 256 + (d as u32)
+}
+
 // The number of the four octets at a place.
 pub fn read4(packet: &[u8], at: usize) -> u32
     requires { ⌜ at + 3 < length (now packet) ⌝ }
     ensures { λ r. ⌜ r ≡ P.read4 (now (packet .entry)) at ⌝ }
 {
-    (read2(packet, at) as u32) * 65536 + (read2(packet, at + 2) as u32)
+    let low = at + 2;
+    quad(packet[at], packet[at + 1], packet[low], packet[low + 1])
 }
 
 // The message that a packet begins with.
