@@ -35,7 +35,7 @@ pub fn route_to(cells: &[u64], originator: u32) -> Route
     requires { ⌜ Knows (now cells) ⌝ }
     ensures { λ r. ⌜ r ≡ routeOf table (decode (now (cells .entry)) .config) (lookup originator (decode (now (cells .entry)) .records)) ⌝ }
 {
-    let f = find_record(cells, originator);
+    let f = find_record(cells, originator).found;
     match f {
         Found::At(i) => route_of(record_at(cells, i), cells[WINDOW] as u32),
         Found::Place(_) => no_route(),

@@ -107,7 +107,7 @@ fn held_links(cells: &[u64], originator: u32) -> Links
     requires { ⌜ Knows (now cells) ⌝ }
     ensures { λ r. ⌜ Finds (linkRows table (decode (now (cells .entry)) .config) (lookup originator (decode (now (cells .entry)) .records))) r ⌝ }
 {
-    let f = find_record(cells, originator);
+    let f = find_record(cells, originator).found;
     match f {
         Found::At(i) => rows_of(record_at(cells, i), cells[WINDOW] as u32),
         Found::Place(_) => no_links(0),

@@ -99,7 +99,7 @@ pub fn decide(cells: &mut [u64], packet: &[u8], out: &mut [u8], m: Arrival) -> R
 {
     let n = cells[ROWS] as usize;
     let bidirectional = has_row(&cells[NEIGHBOURS_FROM..RECORDS_FROM], n, m.ogm.link);
-    let f = find_record(cells, m.originator);
+    let f = find_record(cells, m.originator).found;
     match f {
         Found::At(i) => heard_again(cells, packet, out, m, i, bidirectional),
         Found::Place(i) => first_heard(cells, packet, out, m, i, bidirectional),

@@ -3,17 +3,20 @@ use mathlib.Core.Path.{_≡_, refl, sym, ap, _∙_, subst}
 use mathlib.Core.List.{List, [], _∷_, _++_, map}
 use mathlib.Core.Bool.{Bool, true, false}
 use mathlib.Core.Option.{none, some}
-use Prim.Native.Nat.{ℕ, zero, suc, _+_, _*_, _-_, _≤_, _<_, zero-le}
-use native.Mathlib.Nat.{not-suc-le-zero, le-of-suc-le-suc, mul-le-mul-right, suc-mul}
+use Prim.Native.Nat.{ℕ, zero, suc, _+_, _*_, _-_, _/_, _^_, _≤_, _<_, zero-le}
+use native.Mathlib.Nat.{not-suc-le-zero, le-of-suc-le-suc, mul-le-mul-right, suc-mul, zero-add, add-zero, pow-zero, two-pow-succ}
 use native.Mathlib.Omega.{arith}
 use lib.Dec.{leb, ltb, eqb}
 use lib.ListN.{length, take, drop, set, getD}
+use lib.Pow.{pow-pos}
 use lib.Seq.{set-split}
 use borrow.Author.Tests.{leb-true, ltb-true, lt-ltb, le-ltb, eq-eqb, ne-eqb, eqb-true, eqb-false}
 use Rattle.lists.specs.Lists.{all, keep}
 use Rattle.lists.specs.Keyed.{lookup, put, rising}
 use Rattle.cells.specs.Area.{riseFrom, rise, keyOf, rowsOf, column, insertAt}
-use Rattle.cells.specs.Find.{Sorted, IsAt, IsPlace}
+use Rattle.cells.specs.Find.{Sorted, IsAt, IsPlace, FoundIn, middle, Halving, none-left, equal, upper-half, lower-half, Searched}
+use Rattle.cells.specs.declared.Found.{Found}
+use Rattle.cells.specs.declared.Found.the-variants.{At, Place}
 use Rattle.lists.proofs.Tests.{and-left, and-right}
 use Rattle.cells.proofs.Keys.{keysOf, keys-decoded, rising-keys, length-column, getD-column}
 
@@ -36,16 +39,66 @@ later-above low (x ∷ ks) zero (suc j) r h k =
     omega arith
 later-above low (x ∷ ks) (suc i) (suc j) r h k = later-above (x + 1) ks i j (and-right (leb low x) (riseFrom (x + 1) ks) r) (le-of-suc-le-suc h) (le-of-suc-le-suc k)
 
--- ---- halving: every key before `low` is below x, and every key from `high` on is not
+-- ---- what halving finds: every key before those that are left is below k, and every key behind them above it
 
-pub record Bracket (w n : ℕ) (c : List ℕ) (x low high : ℕ) : Type 0 where
-  pub order : low ≤ high
-  pub within : high ≤ n
-  pub below : (j : ℕ) → j < low → getD (column w n c) j 0 < x
-  pub above : (j : ℕ) → high ≤ j → j < n → x ≤ getD (column w n c) j 0
+record Bracket (ks : List ℕ) (k low left : ℕ) : Type 0 where
+  within : low + left ≤ length ks
+  below : (j : ℕ) → j < low → getD ks j 0 < k
+  above : (j : ℕ) → low + left ≤ j → j < length ks → k < getD ks j 0
 
-pub bracket-start : (w n : ℕ) (c : List ℕ) (x : ℕ) → Bracket w n c x 0 n
-bracket-start w n c x = record { order = omega arith; within = omega arith; below = λ j h. absurd (not-suc-le-zero h); above = λ j h k. absurd (omega arith) }
+module _ (ks : List ℕ) (rises : rise ks ≡ true) where
+  rises-le : (i j : ℕ) → i ≤ j → j < length ks → getD ks i 0 ≤ getD ks j 0
+  rises-le i j h l = go (eqb i j) refl
+    where
+      go : (b : Bool) → eqb i j ≡ b → getD ks i 0 ≤ getD ks j 0
+      go true e = let g = eqb-true i j e in let a = ap (λ (m : ℕ). getD ks m 0) g in omega arith
+      go false e = let g = eqb-false i j e in let a = later-above 0 ks i j rises (omega arith) l in omega arith
+
+  halving-finds : {k low left rounds : ℕ} {f : Found} → Halving ks k low left rounds f → Bracket ks k low left → FoundIn ks k f
+  halving-finds none-left b =
+      let q = b .within in
+      record { within = omega arith; below = b .below; above = λ j h l. b .above j (omega arith) l }
+  halving-finds (equal more e) b = let q = b .within in record { within = omega arith; same = e }
+  halving-finds (upper-half {low} {left} more t h) b =
+      let q = b .within in
+      halving-finds h (record {
+        within = omega arith;
+        below = λ j l. (let m = rises-le j (middle low left) (omega arith) (omega arith) in omega arith);
+        above = λ j l u. b .above j (omega arith) u;
+      })
+  halving-finds (lower-half {low} {left} more t h) b =
+      let q = b .within in
+      halving-finds h (record { within = omega arith; below = b .below; above = λ j l u. (let m = rises-le (middle low left) j (omega arith) u in omega arith) })
+
+-- ---- how many rounds halving takes: among fewer than 2^e keys at most e
+
+module _ {ks : List ℕ} {k : ℕ} where
+  rounds-few : {low left rounds : ℕ} {f : Found} → Halving ks k low left rounds f → (e : ℕ) → left < 2 ^ e → rounds ≤ e
+  rounds-few none-left e l = zero-le
+  rounds-few (equal more t) zero l = absurd (omega (arith, pow-zero 2))
+  rounds-few (equal more t) (suc e) l = omega arith
+  rounds-few (upper-half more t h) zero l = absurd (omega (arith, pow-zero 2))
+  rounds-few (upper-half more t h) (suc e) l = let p = two-pow-succ e in let r = rounds-few h e (omega arith) in omega arith
+  rounds-few (lower-half more t h) zero l = absurd (omega (arith, pow-zero 2))
+  rounds-few (lower-half more t h) (suc e) l = let p = two-pow-succ e in let r = rounds-few h e (omega arith) in omega arith
+
+  -- and no fewer will do: a key below 2^e others takes more than e
+  pub rounds-needed : {low left rounds : ℕ} {f : Found} → Halving ks k low left rounds f → ((j : ℕ) → low ≤ j → j < low + left → k < getD ks j 0) → (e : ℕ) → 2 ^ e ≤ left → e < rounds
+  rounds-needed none-left a e l = let p = pow-pos e in absurd (omega arith)
+  rounds-needed (equal {low} {left} more t) a e l = let m = a (middle low left) (omega arith) (omega arith) in absurd (omega arith)
+  rounds-needed (upper-half {low} {left} more t h) a e l = let m = a (middle low left) (omega arith) (omega arith) in absurd (omega arith)
+  rounds-needed (lower-half more t h) a zero l = omega arith
+  rounds-needed (lower-half more t h) a (suc e) l = let p = two-pow-succ e in let r = rounds-needed h (λ j u v. a j u (omega arith)) e (omega arith) in omega arith
+
+-- ---- the rounds taken so far, put before those of a search that goes on from here
+
+pub record Going (ks : List ℕ) (k n low left rounds : ℕ) : Type 0 where
+  pub within : low + left ≤ n
+  pub taken : rounds + left ≤ n
+  pub goes : (r : ℕ) (f : Found) → Halving ks k low left r f → Halving ks k 0 n (rounds + r) f
+
+pub going-start : (ks : List ℕ) (k n : ℕ) → Going ks k n 0 n 0
+going-start ks k n = record { within = omega arith; taken = omega arith; goes = λ r f h. rw zero-add h }
 
 module _ {w n : ℕ} {c : List ℕ} (s : Sorted w n c) where
   -- a row's first cell lies within
@@ -57,52 +110,47 @@ module _ {w n : ℕ} {c : List ℕ} (s : Sorted w n c) where
       let z = s .wide in
       omega arith
 
-  key-at : (j : ℕ) → j < n → getD (column w n c) j 0 ≡ getD c (j * w) 0
-  key-at j h = getD-column w n c j (s .wide) h
+  -- halving that begins with all keys is what the contract asks for
+  searched : {k r : ℕ} {f : Found} → Halving (column w n c) k 0 n r f → Searched (column w n c) k (record { found = f; rounds = r })
+  searched {k} {r} {f} h =
+      let l = length-column w n c in
+      let g = subst (λ (m : ℕ). Halving (column w n c) k 0 m r f) (sym l) h in
+      record {
+        found = halving-finds (column w n c) (s .rises) g (record { within = omega arith; below = λ j u. absurd (not-suc-le-zero u); above = λ j u v. absurd (omega arith) });
+        rounds = g;
+        few = rounds-few g;
+      }
 
-  rises : (i j : ℕ) → i < j → j < n → getD (column w n c) i 0 < getD (column w n c) j 0
-  rises i j h k = let e = length-column w n c in later-above 0 (column w n c) i j (s .rises) h (omega arith)
+  -- one round more
+  module _ {k low left rounds : ℕ} (g : Going (column w n c) k n low left rounds) (more : 0 < left) where
+    key-read : getD (column w n c) (middle low left) 0 ≡ getD c (middle low left * w) 0
+    key-read = let q = g .within in getD-column w n c (middle low left) (s .wide) (omega arith)
 
-  rises-le : (i j : ℕ) → i ≤ j → j < n → getD (column w n c) i 0 ≤ getD (column w n c) j 0
-  rises-le i j h k = go (eqb i j) refl
-    where
-      go : (b : Bool) → eqb i j ≡ b → getD (column w n c) i 0 ≤ getD (column w n c) j 0
-      go true e = let g = eqb-true i j e in let a = ap (λ (m : ℕ). getD (column w n c) m 0) g in omega arith
-      go false e = let g = eqb-false i j e in let a = rises i j (omega arith) k in omega arith
+    one-more : (r : ℕ) (f : Found) → Halving (column w n c) k low left (suc r) f → Halving (column w n c) k 0 n (rounds + 1 + r) f
+    one-more r f h =
+        let e : rounds + suc r ≡ rounds + 1 + r = omega arith in
+        subst (λ (m : ℕ). Halving (column w n c) k 0 n m f) e (g .goes (suc r) f h)
 
-  module _ {x low high : ℕ} (b : Bracket w n c x low high) where
-    pub bracket-up : (mid : ℕ) → low ≤ mid → mid < high → getD c (mid * w) 0 < x → Bracket w n c x (mid + 1) high
-    bracket-up mid l h t =
-        let q = b .within in
-        let e = key-at mid (omega arith) in
-        record { order = omega arith; within = q; below = λ j k. (let m = rises-le j mid (omega arith) (omega arith) in omega arith); above = b .above }
+    next-round : {low' left' : ℕ} → low' + left' ≤ low + left → left' < left → ((r : ℕ) (f : Found) → Halving (column w n c) k low' left' r f → Halving (column w n c) k low left (suc r) f) → Going (column w n c) k n low' left' (rounds + 1)
+    next-round l m h =
+        let q = g .within in
+        let u = g .taken in
+        record { within = omega arith; taken = omega arith; goes = λ r f d. one-more r f (h r f d) }
 
-    pub bracket-down : (mid : ℕ) → low ≤ mid → mid < high → x ≤ getD c (mid * w) 0 → Bracket w n c x low mid
-    bracket-down mid l h t =
-        let q = b .within in
-        let e = key-at mid (omega arith) in
-        record { order = l; within = omega arith; below = b .below; above = λ j k m. (let a = rises-le mid j k m in omega arith) }
+    pub going-up : getD c (middle low left * w) 0 < k → Going (column w n c) k n (middle low left + 1) (left - (left / 2 + 1)) (rounds + 1)
+    going-up t = next-round (omega arith) (omega arith) (λ r f. upper-half more (omega (arith, key-read)))
 
-    -- the bracket is shut
-    module _ (shut : high ≤ low) where
-      pub shut-at : low < n → getD c (low * w) 0 ≡ x → IsAt (column w n c) x low
-      shut-at h e = let l = length-column w n c in record { within = omega arith; same = key-at low h ∙ e }
+    pub going-down : k < getD c (middle low left * w) 0 → Going (column w n c) k n low (left / 2) (rounds + 1)
+    going-down t = next-round (omega arith) (omega arith) (λ r f. lower-half more (omega (arith, key-read)))
 
-      pub shut-place : (low < n → getD c (low * w) 0 ≡ x → ⊥) → IsPlace (column w n c) x low
-      shut-place d =
-          let l = length-column w n c in
-          let o = b .order in
-          let q = b .within in
-          record {
-            within = omega arith;
-            below = b .below;
-            above = λ j h k.
-                let g = b .above low shut (omega arith) in
-                let a = rises-le low j h (omega arith) in
-                let e = key-at low (omega arith) in
-                let v : getD c (low * w) 0 ≡ x → ⊥ = d (omega arith) in
-                omega arith;
-          }
+    pub ends-at : getD c (middle low left * w) 0 ≡ k → Searched (column w n c) k (record { found = At (middle low left); rounds = rounds + 1 })
+    ends-at t = searched (g .goes 1 (At (middle low left)) (equal more (key-read ∙ t)))
+
+  pub ends-between : {k low left rounds : ℕ} → Going (column w n c) k n low left rounds → left ≤ 0 → Searched (column w n c) k (record { found = Place low; rounds = rounds })
+  ends-between {k} {low} {left} {rounds} g shut =
+      let e : 0 ≡ left = omega arith in
+      subst (λ (m : ℕ). Searched (column w n c) k (record { found = Place low; rounds = m })) (add-zero rounds)
+      (searched (g .goes 0 (Place low) (subst (λ (m : ℕ). Halving (column w n c) k low m 0 (Place low)) e none-left)))
 
 -- ---- what the place of a key says of a map: what stands under it, and the entries below and above it
 

@@ -65,7 +65,7 @@ pub fn locate(part: &[u64], n: usize, key: u64) -> Spot
     requires { ⌜ Sorted linkCells n (now part) ⌝ }
     ensures { λ r. ⌜ SpotOf (linksFrom n (now (part .entry))) key r ⌝ }
 {
-    let f = find(part, LINK, n, key);
+    let f = find(part, LINK, n, key).found;
     match f {
         Found::At(i) => Spot {
             low: i,

@@ -36,7 +36,7 @@ pub fn has_row(rows: &[u64], n: usize, link: u64) -> bool
     requires { ⌜ RowsHeld n (now rows) ⌝ }
     ensures { λ r. ⌜ r ≡ hasKey link (pairsOf n (now (rows .entry))) ⌝ }
 {
-    let f = find(rows, ROW, n, link);
+    let f = find(rows, ROW, n, link).found;
     match f {
         Found::At(_) => true,
         Found::Place(_) => false,
@@ -49,7 +49,7 @@ pub fn record_echo(rows: &mut [u64], n: usize, link: u64, number: u64) -> Echo
     ensures { λ r. ⌜ EchoTaken n (now (rows .entry)) (now (rows .exit)) link number r ⌝ }
 {
     let row = [link, number];
-    let f = find(rows, ROW, n, link);
+    let f = find(rows, ROW, n, link).found;
     match f {
         Found::At(i) => {
             write(rows, i * ROW, &row);

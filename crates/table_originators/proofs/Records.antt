@@ -1,15 +1,16 @@
 -- Where the records of a well-formed table stand in its cells, and what a search finds. Assumes nothing.
 use mathlib.Core.Path.{_≡_, sym, ap, _∙_, subst}
 use mathlib.Core.List.{List}
-use Prim.Native.Nat.{ℕ, _-_, _*_, _<_}
+use Prim.Native.Nat.{ℕ, _-_, _*_, _^_, _<_}
 use native.Mathlib.Omega.{arith}
 use lib.ListN.{length, take, drop, getD}
 use lib.Seq.{getD-drop}
 use Rattle.cells.specs.Area.{column, rowsOf}
-use Rattle.cells.specs.Find.{Sorted, IsAt, IsPlace, FoundIn}
+use Rattle.cells.specs.Find.{Sorted, IsAt, IsPlace, FoundIn, Searched}
 use Rattle.cells.specs.declared.Found.{Found}
 use Rattle.cells.specs.declared.Found.the-variants.{At, Place}
-use Rattle.cells.proofs.Keys.{keys-decoded, row-key, getD-column}
+use Rattle.cells.specs.declared.SearchResult.{SearchResult}
+use Rattle.cells.proofs.Keys.{keys-decoded, row-key, length-column, getD-column}
 use Rattle.cells.proofs.Lent.{tail-is}
 use Rattle.cells.proofs.Search.{at-below}
 use Rattle.rules.specs.Settings.{recordCells}
@@ -19,7 +20,7 @@ use Rattle.table_layout.specs.Layout.{recordsAt, recordsFrom, recordPart}
 use Rattle.table_layout.specs.Cells.{decode}
 use Rattle.table_layout.specs.Facts.{Knows, recordAt}
 use Rattle.table_check.proofs.Knowing.{records-sorted, record-within, record-held-at, record-found, record-missing}
-use Rattle.table_originators.specs.Originators.{heldBy, recordPlace, Stands, Missing, RecordFound}
+use Rattle.table_originators.specs.Originators.{heldBy, recordPlace, Stands, Missing, RecordFound, roundsMost, RecordSought}
 
 -- the keys of the rows are the originators held
 abbrev keys : List ℕ → List ℕ
@@ -54,10 +55,16 @@ module _ (c : List ℕ) (k : Knows c) where
     unfolding decode
     missing p = record { knows = k; place = p; none = record-missing c k o i (subst (λ (ks : List ℕ). IsPlace ks o i) (sym (keys-held c)) p) }
 
-  -- what a search among the lent records finds
-  pub found-record : (o : ℕ) (f : Found) → FoundIn (column recordCells (getD c recordsAt 0) (lent c)) o f → RecordFound c o f
-  found-record o f p = go f (subst (λ (ks : List ℕ). FoundIn ks o f) (ap (column recordCells (getD c recordsAt 0)) (tail-is c recordsFrom) ∙ keys-held c) p)
-    where
-      go : (f : Found) → FoundIn (heldBy (decode c)) o f → RecordFound c o f
-      go (At i) q = stands o i q
-      go (Place i) q = missing o i q
+  found-record : (o : ℕ) (f : Found) → FoundIn (heldBy (decode c)) o f → RecordFound c o f
+  found-record o (At i) q = stands o i q
+  found-record o (Place i) q = missing o i q
+
+  -- there are fewer than 2^9 records
+  held-few : length (heldBy (decode c)) < 2 ^ roundsMost
+  held-few = omega (arith, sym (ap length (keys-held c)) ∙ length-column recordCells (getD c recordsAt 0) (recordPart c), k .sized .records, k .sized .capacity)
+
+  -- what a search among the lent records answers
+  pub sought : (o : ℕ) (s : SearchResult) → Searched (column recordCells (getD c recordsAt 0) (lent c)) o s → RecordSought c o s
+  sought o s p =
+      let q = subst (λ (ks : List ℕ). Searched ks o s) (ap (column recordCells (getD c recordsAt 0)) (tail-is c recordsFrom) ∙ keys-held c) p in
+      record { found = found-record o (s .found) (q .found); rounds = q .rounds; few = q .few roundsMost held-few }

@@ -6,9 +6,10 @@ use mathlib.Core.List.{List, map}
 use mathlib.Core.Option.{none, some}
 use lib.ListN.{length}
 use Rattle.lists.specs.Keyed.{lookup, put}
-use Rattle.cells.specs.Find.{IsAt, IsPlace}
+use Rattle.cells.specs.Find.{IsAt, IsPlace, Halving}
 use Rattle.cells.specs.declared.Found.{Found}
 use Rattle.cells.specs.declared.Found.the-variants.{At, Place}
+use Rattle.cells.specs.declared.SearchResult.{SearchResult}
 use Rattle.rules.specs.Messages.{Message}
 use Rattle.rules.specs.declared.Route.{Route}
 use Rattle.rules.specs.Settings.{recordCells}
@@ -52,6 +53,17 @@ pub record Missing (c : List ℕ) (o i : ℕ) : Type 0 where
 abbrev pub RecordFound : List ℕ → (o : ℕ) → Found → Type 0
 RecordFound c o (At i) = Stands c o i
 RecordFound c o (Place i) = Missing c o i
+
+-- the most rounds that a search for an originator takes
+abbrev pub roundsMost : ℕ
+roundsMost = 9
+
+-- what a search for o answers: its record, or the place where it belongs, by halving the originators held; each round compares o with one of them,
+-- and there are at most nine
+pub record RecordSought (c : List ℕ) (o : ℕ) (s : SearchResult) : Type 0 where
+  pub found : RecordFound c o (s .found)
+  pub rounds : Halving (heldBy (decode c)) o 0 (length (heldBy (decode c))) (s .rounds) (s .found)
+  pub few : s .rounds ≤ roundsMost
 
 -- the record that stands at place i, and the one that it becomes once a message is counted in it
 abbrev pub standingAt : List ℕ → (i : ℕ) → TableRecord

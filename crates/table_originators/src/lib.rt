@@ -1,5 +1,5 @@
 // The originators' records in a table's cells: found by address, told of a message, and made.
-use cells::Found;
+use cells::SearchResult;
 use cells::find;
 use cells_moves::move_up;
 use count_in_record::Heard;
@@ -24,7 +24,7 @@ ghost use Rattle.rules.specs.Calls.{neighbourOf};
 ghost use Rattle.table_layout.specs.Layout.{capacityAt, recordsAt};
 ghost use Rattle.table_layout.specs.Cells.{decode};
 ghost use Rattle.table_layout.specs.Facts.{Knows, recordAt};
-ghost use Rattle.table_originators.specs.Originators.{Holds, Stands, Missing, RecordFound, HeardAt, Made};
+ghost use Rattle.table_originators.specs.Originators.{Holds, Stands, Missing, RecordSought, HeardAt, Made};
 
 // What counting is told of the table's settings.
 pub fn policy_of(cells: &[u64]) -> Policy
@@ -37,10 +37,10 @@ pub fn policy_of(cells: &[u64]) -> Policy
     }
 }
 
-// Where an originator's record stands among those held, or the place where it would go.
-pub fn find_record(cells: &[u64], originator: u32) -> Found
+// Where an originator's record stands among those held, or the place where it would go, in at most nine rounds.
+pub fn find_record(cells: &[u64], originator: u32) -> SearchResult
     requires { ⌜ Knows (now cells) ⌝ }
-    ensures { λ r. ⌜ RecordFound (now (cells .entry)) originator r ⌝ }
+    ensures { λ r. ⌜ RecordSought (now (cells .entry)) originator r ⌝ }
 {
     find(
         &cells[RECORDS_FROM..],

@@ -106,7 +106,7 @@ pub fn marks_of(part: &[u64], n: usize, key: u64) -> Marks
     requires { ⌜ Sorted linkCells n (now part) ⌝ }
     ensures { λ r. ⌜ wordOf r ≡ marksAt (linksFrom n (now (part .entry))) key ⌝ }
 {
-    let f = find(part, LINK, n, key);
+    let f = find(part, LINK, n, key).found;
     match f {
         Found::At(i) => marks_at(part, i),
         Found::Place(_) => no_marks(),

@@ -19,7 +19,7 @@ from-found c = c .before .before .before .before
 stands : (c : tie.After-f) → let a = from-found c .args in Stands (a .cells .now) (a .originator) (c .f .given .0 .0)
 stands c =
     let a = from-found c .args in
-    subst (RecordFound (a .cells .now) (a .originator)) (c .f .given .1) (c .before .before .find-record .ensures)
+    subst (RecordFound (a .cells .now) (a .originator)) (c .f .given .1) (c .before .before .find-record .ensures .found)
 
 route-of-requires : tie.Need-route-of-requires
 route-of-requires c κs = subst Held (sym (c .before .record-at .ensures)) (stands (c .before .before .before) .holds .row)
@@ -36,7 +36,7 @@ returns-2 : tie.Need-returns-2
 returns-2 c =
     let o = c .before in
     let a = o .before .before .before .before .args in
-    let m = subst (RecordFound (a .cells .now) (a .originator)) (o .enum-told .given .1) (o .before .before .find-record .ensures) in
+    let m = subst (RecordFound (a .cells .now) (a .originator)) (o .enum-told .given .1) (o .before .before .find-record .ensures .found) in
     c .no-route .ensures ∙ ap (routeOf table (decode (a .cells .now) .config)) (sym (m .none))
 
 pub route-to-spec : {M : Type 1} → statement M

@@ -22,7 +22,7 @@ from-at c = from-find (c .before .before)
 
 -- the record stands at place i
 stands : (c : tie.After-f) → Stands (from-at c .args .cells .now) (from-at c .args .originator) (c .f .given .0 .0)
-stands c = let a = from-at c .args in subst (RecordFound (a .cells .now) (a .originator)) (c .f .given .1) (c .before .before .find-record .ensures)
+stands c = let a = from-at c .args in subst (RecordFound (a .cells .now) (a .originator)) (c .f .given .1) (c .before .before .find-record .ensures .found)
 
 rows-of-requires : tie.Need-rows-of-requires
 rows-of-requires c κs =
@@ -44,7 +44,7 @@ returns-2 c =
     let o = c .before in
     let f = o .before .before in
     let a = from-find f .args in
-    let m = subst (RecordFound (a .cells .now) (a .originator)) (o .enum-told .given .1) (f .find-record .ensures) in
+    let m = subst (RecordFound (a .cells .now) (a .originator)) (o .enum-told .given .1) (f .find-record .ensures .found) in
     subst (λ (x : Option TableRecord). Finds (linkRows table (decode (a .cells .now) .config) x) (c .no-links .result)) (sym (m .none)) (none-found (c .no-links .result) (c .no-links .ensures))
 
 pub held-links-spec : {M : Type 1} → statement M

@@ -29,8 +29,8 @@ decides c =
     record { taken = s .pre .0; link = c .has-row .ensures ∙ ap (hasKey (s .args .m .ogm .link)) (rows-are (now (s .args .cells))); ruled = s .pre .1 }
 
 -- what the search says of the originator
-found : (c : tie.After-find-record) → let a = entry (looked c) .args in (x : Found) → c .find-record .result ≡ x → RecordFound (now (a .cells)) (a .m .originator) x
-found c x e = let a = entry (looked c) .args in subst (RecordFound (now (a .cells)) (a .m .originator)) e (c .find-record .ensures)
+found : (c : tie.After-find-record) → let a = entry (looked c) .args in (x : Found) → c .find-record .result .found ≡ x → RecordFound (now (a .cells)) (a .m .originator) x
+found c x e = let a = entry (looked c) .args in subst (RecordFound (now (a .cells)) (a .m .originator)) e (c .find-record .ensures .found)
 
 heard-again-requires : tie.Need-heard-again-requires
 heard-again-requires c κs =

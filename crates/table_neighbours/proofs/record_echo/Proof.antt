@@ -38,12 +38,12 @@ room-for c = c .before .before .before
 at : (c : tie.After-f) → let s = entry (at-row c) in IsAt (column pairCells (s .args .n) (now (s .args .rows))) (s .args .link) (c .f .given .0 .0)
 at c =
     let s = entry (at-row c) in
-    subst (λ (f : Found). FoundIn (column pairCells (s .args .n) (now (s .args .rows))) (s .args .link) f) (c .f .given .1) (at-row c .find .ensures)
+    subst (λ (f : Found). FoundIn (column pairCells (s .args .n) (now (s .args .rows))) (s .args .link) f) (c .f .given .1) (at-row c .find .ensures .found)
 
 place : (c : tie.After-f2) → let s = entry (at-place c) in IsPlace (column pairCells (s .args .n) (now (s .args .rows))) (s .args .link) (c .f2 .given .0 .0)
 place c =
     let s = entry (at-place c) in
-    subst (λ (f : Found). FoundIn (column pairCells (s .args .n) (now (s .args .rows))) (s .args .link) f) (c .f2 .given .1) (at-place c .find .ensures)
+    subst (λ (f : Found). FoundIn (column pairCells (s .args .n) (now (s .args .rows))) (s .args .link) f) (c .f2 .given .1) (at-place c .find .ensures .found)
 
 -- there is room for one more
 room : (c : tie.After-put-in-arg) → entry (at-place (room-for c)) .args .n < neighbourMost

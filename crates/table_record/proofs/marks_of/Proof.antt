@@ -16,7 +16,7 @@ from-find c = c .before .before
 at : (c : tie.After-f) → IsAt (column linkCells (from-find (c .before .before) .args .n) (from-find (c .before .before) .args .part .now)) (from-find (c .before .before) .args .key) (c .f .given .0 .0)
 at c =
     let a = from-find (c .before .before) .args in
-    subst (λ (f : Found). FoundIn (column linkCells (a .n) (a .part .now)) (a .key) f) (c .f .given .1) (c .before .before .find .ensures)
+    subst (λ (f : Found). FoundIn (column linkCells (a .n) (a .part .now)) (a .key) f) (c .f .given .1) (c .before .before .find .ensures .found)
 
 marks-at-requires : tie.Need-marks-at-requires
 marks-at-requires c κs =
@@ -35,7 +35,7 @@ returns-2 c =
     let f = t .before .before in
     let s = from-find f in
     c .no-marks .ensures ∙ marks-missing (s .args .n) (s .args .part .now) (s .args .key) (t .enum-told .given .0 .0)
-    (subst (λ (f : Found). FoundIn (column linkCells (s .args .n) (s .args .part .now)) (s .args .key) f) (t .enum-told .given .1) (f .find .ensures))
+    (subst (λ (f : Found). FoundIn (column linkCells (s .args .n) (s .args .part .now)) (s .args .key) f) (t .enum-told .given .1) (f .find .ensures .found))
 
 pub marks-of-spec : {M : Type 1} → statement M
 marks-of-spec = tie.close (tie.spec (λ c κs. search needs) (λ c. search needs) marks-at-requires (λ c. search needs) (λ c κs. search needs) returns returns-2)
