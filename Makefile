@@ -4,6 +4,7 @@ OBJCOPY ?= objcopy
 CFLAGS ?= -O2
 WARN = -std=c11 -Wall -Wextra -Werror
 ARCHIVE = target/staticlib/libbatman.a
+SEARCH = target/staticlib/libbench_search.a
 BUILD = target/c
 SANITIZE = -fsanitize=address,undefined -fno-sanitize-recover=all
 YARD = demo/main.c demo/options.c demo/run.c demo/routes.c demo/yard.c demo/reader.c demo/radio.c demo/picture.c demo/plot.c demo/svg.c filter/relay_filter.c
@@ -28,10 +29,13 @@ $(BUILD)/demo: archive
 
 # The archive that a C program links: proved first, then compiled. Each function is made to begin on a cache line, so that how fast its loops are does not
 # depend on where a program's linker puts them.
-archive:
+archive: $(ARCHIVE)
+
+.PHONY: $(ARCHIVE) $(SEARCH)
+$(ARCHIVE) $(SEARCH): target/staticlib/lib%.a:
 	@mkdir -p target
-	@rt staticlib batman > target/staticlib.log 2>&1 || { cat target/staticlib.log; exit 1; }
-	@$(OBJCOPY) --set-section-alignment '.text.*=64' $(ARCHIVE)
+	@rt staticlib $* > target/staticlib-$*.log 2>&1 || { cat target/staticlib-$*.log; exit 1; }
+	@$(OBJCOPY) --set-section-alignment '.text.*=64' $@
 
 test:
 	@tools/test
@@ -71,5 +75,5 @@ c-tests:
 	@$(BUILD)/readme | diff tests/readme.expected - && echo "README: its example compiles as printed and prints what it says"
 
 # Speed beside independent versions in C, as a ratio; no test depends on it.
-bench: archive
+bench: archive $(SEARCH)
 	@bench/calls/run

@@ -11,7 +11,15 @@
 #include "calls.h"
 
 enum {
-    VERSIONS = 5,
+    PROVED,
+    CELLS_CLANG,
+    CELLS_GCC,
+    PLAIN_CLANG,
+    PLAIN_GCC,
+#ifdef BEFORE
+    EARLIER, /* another archive of the library */
+#endif
+    VERSIONS,
     SINGLES = VERSIONS, /* the library's single calls, which are timed beside its bursts on a table of their own */
     PLAYERS,
     COMPARED = 1000000, /* calls */
@@ -19,13 +27,19 @@ enum {
     LINKS = 8,
     MOST = 256,        /* originators */
     CALLS_MOST = 1024, /* in a slice */
+    SEARCHES = 8192,   /* in a slice, after one check of the table */
     COPIES_MOST = 32,
     ENTRIES_CHECKED = 292, /* of the packets that are only checked, at most */
     PURGE = 2000000000,
     FILLING = 100 /* numbers of each originator before anything is timed */
 };
 
-static const struct version *const versions[VERSIONS] = {&proved, &cells_clang, &cells_gcc, &plain_clang, &plain_gcc};
+static const struct version *const versions[VERSIONS] = {
+    [PROVED] = &proved, [CELLS_CLANG] = &cells_clang, [CELLS_GCC] = &cells_gcc, [PLAIN_CLANG] = &plain_clang, [PLAIN_GCC] = &plain_gcc,
+#ifdef BEFORE
+    [EARLIER] = &before,
+#endif
+};
 
 enum { AT_1, AT_16, AT_64, AT_256, SIZES };
 
@@ -55,6 +69,7 @@ struct slice {
     uint8_t octets[CALLS_MOST][PACKET];
     uint64_t lengths[CALLS_MOST], interfaces[CALLS_MOST];
     uint32_t senders[CALLS_MOST];
+    uint32_t sought[SEARCHES];
 };
 
 /* A mesh with its tables, one for each version, and copies of them for calls that can be made only once. */
@@ -193,6 +208,22 @@ static void all_entries_held(const struct mesh *m)
                 stop("an originator's entries are not held");
 }
 
+/* A search for each originator, and for an address that none has, takes as many rounds in every version that counts them. */
+static void same_rounds(const struct mesh *m)
+{
+    for (unsigned i = 0; i < 2 * m->originators; i++) {
+        uint32_t address = address_of(i / 2) + i % 2;
+        struct searches first = proved.search(m->table[PROVED], m->count, &address, 1);
+        for (int v = 1; v < VERSIONS; v++) {
+            if (!versions[v]->has_cells || versions[v]->search == NULL)
+                continue;
+            struct searches s = versions[v]->search(m->table[v], m->count, &address, 1);
+            if (s.number != first.number || s.held != first.held || s.most != first.most)
+                stop("a search took another number of rounds");
+        }
+    }
+}
+
 static void open_mesh(struct mesh *m, int size, enum batman_tie tie)
 {
     unsigned originators = sizes[size];
@@ -214,6 +245,7 @@ static void open_mesh(struct mesh *m, int size, enum batman_tie tie)
     for (int i = 0; i < FILLING; i++)
         hear_round(m, originators);
     all_entries_held(m);
+    same_rounds(m);
 }
 
 static void close_mesh(struct mesh *m)
@@ -325,6 +357,11 @@ static uint64_t play_lookup(const struct version *v, struct mesh *m, int place, 
     return sum;
 }
 
+static uint64_t play_search(const struct version *v, struct mesh *m, int place, const struct slice *s)
+{
+    return v->search(m->table[place], m->count, s->sought, s->calls).held;
+}
+
 static uint64_t play_check(const struct version *v, struct mesh *m, int place, const struct slice *s)
 {
     uint64_t sum = 0;
@@ -369,6 +406,14 @@ static void prepare_time(struct mesh *m, struct slice *s)
     s->time = m->time;
 }
 
+/* Of four one that has no record. */
+static void prepare_search(struct mesh *m, struct slice *s)
+{
+    s->calls = SEARCHES;
+    for (unsigned i = 0; i < SEARCHES; i++)
+        s->sought[i] = address_of((unsigned)below(m, m->originators)) + (below(m, 4) == 0);
+}
+
 /* Entries without fault: every bit above the mask set, masks of 8 to 32. */
 static void prepare_check(struct mesh *m, struct slice *s)
 {
@@ -390,7 +435,7 @@ static void prepare_copies(struct mesh *m, struct slice *s)
 /* ---- timing */
 
 /* The rows, as docs/BENCHMARK.md shows them: those of bursts in a table of their own. */
-enum { RELAYED, TIES, DIRECT, OWN, SWEEP, BEST, LOOKUP, CHECK_2, CHECK_16, CHECK_292, SWEEP_ONE, FIRST, BURST_8, BURST_32, ROWS };
+enum { RELAYED, TIES, DIRECT, OWN, SWEEP, BEST, LOOKUP, SEARCH, CHECK_2, CHECK_16, CHECK_292, SWEEP_ONE, FIRST, BURST_8, BURST_32, ROWS };
 
 static const struct row {
     const char *name;
@@ -407,6 +452,7 @@ static const struct row {
     [SWEEP] = {"sweep, none removed", prepare_time, play_sweep, false, 0, 0},
     [BEST] = {"best question", prepare_time, play_best, false, 0, 0},
     [LOOKUP] = {"lookup", prepare_time, play_lookup, false, 0, 0},
+    [SEARCH] = {"search alone", prepare_search, play_search, false, 0, 0},
     [CHECK_2] = {"packet check, 2 entries", prepare_check, play_check, false, 0, 2},
     [CHECK_16] = {"packet check, 16 entries", prepare_check, play_check, false, 0, 16},
     [CHECK_292] = {"packet check, 292 entries", prepare_check, play_check, false, 0, ENTRIES_CHECKED},
@@ -460,7 +506,7 @@ static void time_row(struct mesh *m, int row)
     static struct slice s;
     static double slice[PLAYERS][SLICES];
     const struct row *r = &rows[row];
-    int players = r->burst > 0 ? PLAYERS : VERSIONS;
+    int players = r->play == play_search ? PLAIN_GCC + 1 : r->burst > 0 ? PLAYERS : VERSIONS; /* an earlier archive has no search alone */
     memcpy(m->table[SINGLES], m->table[0], m->count * sizeof(uint64_t)); /* the single calls begin where the bursts do */
     for (int i = 0; i < SLICES; i++) {
         uint64_t sum[PLAYERS];
@@ -502,7 +548,7 @@ static void same_cells(const struct mesh *m)
 
 static void time_mesh(int size)
 {
-    static const int steady[] = {RELAYED, BURST_8, BURST_32, DIRECT, OWN, SWEEP, BEST, LOOKUP, CHECK_2, CHECK_16, CHECK_292};
+    static const int steady[] = {RELAYED, BURST_8, BURST_32, DIRECT, OWN, SWEEP, BEST, LOOKUP, SEARCH, CHECK_2, CHECK_16, CHECK_292};
     static struct mesh m;
     open_mesh(&m, size, BATMAN_NEWEST_WINS); /* as it was before there was a choice: these rows stay comparable */
     for (size_t i = 0; i < sizeof steady / sizeof *steady; i++)
@@ -536,18 +582,25 @@ static double faster(double clang, double gcc, char *which)
 static double beside_cells(int row, int size)
 {
     char which;
-    return took[row][size][0] / faster(took[row][size][1], took[row][size][2], &which);
+    return took[row][size][PROVED] / faster(took[row][size][CELLS_CLANG], took[row][size][CELLS_GCC], &which);
 }
 
-static double beside_singles(int row, int size) { return took[row][size][0] / took[row][size][SINGLES]; }
+static double beside_singles(int row, int size) { return took[row][size][PROVED] / took[row][size][SINGLES]; }
+
+#ifdef BEFORE
+static double beside_before(int row, int size) { return row == SEARCH ? 0 : took[row][size][PROVED] / took[row][size][EARLIER]; }
+#endif
 
 static void print_row(int row, int size)
 {
     const double *ns = took[row][size];
     char cells_by, plain_by;
-    double cells = faster(ns[1], ns[2], &cells_by), plain = faster(ns[3], ns[4], &plain_by);
-    printf("| %-28s | %11u | %9.1f | %6.1f %c | %5.2f | %5.1f %c |", rows[row].name, sizes[size], ns[0], cells, cells_by, beside_cells(row, size),
+    double cells = faster(ns[CELLS_CLANG], ns[CELLS_GCC], &cells_by), plain = faster(ns[PLAIN_CLANG], ns[PLAIN_GCC], &plain_by);
+    printf("| %-28s | %11u | %9.1f | %6.1f %c | %5.2f | %5.1f %c |", rows[row].name, sizes[size], ns[PROVED], cells, cells_by, beside_cells(row, size),
            plain, plain_by);
+#ifdef BEFORE
+    printf(" %9.1f | %9.3f |", ns[EARLIER], beside_before(row, size));
+#endif
     if (rows[row].burst > 0)
         printf(" %9.1f | %11.2f |", ns[SINGLES], beside_singles(row, size));
     printf("\n");
@@ -587,10 +640,27 @@ static double slowest_receive(int size)
     return most;
 }
 
+#ifdef BEFORE
+#define COLUMNS_BEFORE " before ns | of before |"
+#define RULE_BEFORE "---:|---:|"
+
+static double slowest_beside_before(void)
+{
+    double most = 0;
+    for (int row = 0; row < ROWS; row++)
+        for (int size = 0; size < SIZES; size++)
+            most = larger(most, beside_before(row, size));
+    return most;
+}
+#else
+#define COLUMNS_BEFORE ""
+#define RULE_BEFORE ""
+#endif
+
 static void print_all(void)
 {
-    static const char *const columns = "| call                         | originators | proved ns |   (a) ns | ratio |  (b) ns |";
-    static const char *const rule = "|---|---:|---:|---:|---:|---:|";
+    static const char *const columns = "| call                         | originators | proved ns |   (a) ns | ratio |  (b) ns |" COLUMNS_BEFORE;
+    static const char *const rule = "|---|---:|---:|---:|---:|---:|" RULE_BEFORE;
     printf("\n%s\n%s\n", columns, rule);
     print_rows(0, BURST_8);
     printf("\n%s single ns | of a single |\n%s---:|---:|\n", columns, rule);
@@ -602,6 +672,9 @@ static void print_all(void)
     print_aim("a packet of any burst beside (a)", 1.10, slowest_from(BURST_8));
     print_aim("any call beside (a)", 1.10, slowest_from(0));
     print_aim("receive at 64 originators, in microseconds", 2, slowest_receive(AT_64));
+#ifdef BEFORE
+    print_aim("any call beside the other archive's", 1.00, slowest_beside_before());
+#endif
 }
 
 int main(void)

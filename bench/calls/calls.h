@@ -21,6 +21,11 @@ struct burst {
     size_t room, rows;
 };
 
+/* What searches for originators found: refusal 1, or how many of them have a record, and the most rounds of comparing that one took (0 where none is counted). */
+struct searches {
+    uint64_t number, held, most;
+};
+
 /* `table` is what `size` octets hold; `count` is the number of cells for a version that has cells, and ignored by another. */
 struct version {
     const char *name;
@@ -34,10 +39,11 @@ struct version {
     struct batman_swept (*sweep)(void *table, size_t count, uint64_t time);
     struct batman_asked (*best)(const void *table, size_t count, uint32_t originator);
     struct batman_located (*lookup)(const void *table, size_t count, uint32_t address);
+    struct searches (*search)(const void *table, size_t count, const uint32_t *originators, size_t n); /* NULL where it can't be had */
     uint64_t (*packet_check)(const uint8_t *packet, size_t length, uint64_t version);
 };
 
-extern const struct version proved, cells_gcc, cells_clang, plain_gcc, plain_clang;
+extern const struct version proved, before, cells_gcc, cells_clang, plain_gcc, plain_clang;
 
 /* Plays random calls on every version and compares them; false, with a word on standard output, at the first difference. */
 bool compare(const struct version *const *versions, int n, unsigned long calls);

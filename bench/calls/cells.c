@@ -132,24 +132,34 @@ static bool well_formed(const uint64_t *c, size_t count)
     return zeros(r, c + count);
 }
 
-/* ---- rows that rise by their key: the first of n that is not below it */
+/* ---- rows that rise by their key */
 
-static inline size_t lower(const uint64_t *rows, size_t width, size_t n, uint64_t key)
+/* Where a key's row stands, or would: found by halving, in as many rounds. */
+struct place {
+    size_t at;
+    bool found;
+    uint64_t rounds;
+};
+
+static inline struct place find(const uint64_t *rows, size_t width, size_t n, uint64_t key)
 {
     size_t low = 0;
+    uint64_t rounds = 0;
     while (n > 0) {
         size_t half = n / 2;
-        if (rows[(low + half) * width] < key) {
+        uint64_t other = rows[(low + half) * width];
+        rounds++;
+        if (other == key)
+            return (struct place){low + half, true, rounds};
+        if (other < key) {
             low += half + 1;
             n -= half + 1;
         } else {
             n = half;
         }
     }
-    return low;
+    return (struct place){low, false, rounds};
 }
-
-static inline bool stands(const uint64_t *rows, size_t width, size_t n, size_t at, uint64_t key) { return at < n && rows[at * width] == key; }
 
 static void put_in(uint64_t *rows, size_t width, size_t n, size_t at)
 {
@@ -185,8 +195,8 @@ static inline struct batman_route route_of(const uint64_t *c, const uint64_t *r)
 static struct batman_route route_to(const uint64_t *c, uint32_t originator)
 {
     const uint64_t *records = c + ALL_RECORDS_AT;
-    size_t n = (size_t)c[RECORDS_AT], at = lower(records, RECORD, n, originator);
-    return stands(records, RECORD, n, at, originator) ? route_of(c, records + at * RECORD) : (struct batman_route){0, 0, 0, 0};
+    struct place p = find(records, RECORD, (size_t)c[RECORDS_AT], originator);
+    return p.found ? route_of(c, records + p.at * RECORD) : (struct batman_route){0, 0, 0, 0};
 }
 
 /* An arrived message. */
@@ -352,15 +362,16 @@ static struct batman_received own_message(uint64_t *c, const uint8_t *packet, co
     uint64_t *rows = c + NEIGHBOURS_AT;
     bool echo = (packet[1] & D) && row[OWN] == m->originator && row[SENT] && row[LAST] == m->sequence;
     if (echo) {
-        size_t n = (size_t)c[ROWS_AT], at = lower(rows, NEIGHBOUR, n, m->key);
-        if (!stands(rows, NEIGHBOUR, n, at, m->key)) {
+        size_t n = (size_t)c[ROWS_AT];
+        struct place p = find(rows, NEIGHBOUR, n, m->key);
+        if (!p.found) {
             if (n == NEIGHBOUR_MOST)
                 return refusal((struct fault){9, 0});
-            put_in(rows, NEIGHBOUR, n, at);
-            rows[at * NEIGHBOUR] = m->key;
+            put_in(rows, NEIGHBOUR, n, p.at);
+            rows[p.at * NEIGHBOUR] = m->key;
             c[ROWS_AT]++;
         }
-        rows[at * NEIGHBOUR + 1] = m->sequence;
+        rows[p.at * NEIGHBOUR + 1] = m->sequence;
     }
     c[TIME_AT] = m->time;
     return answer(echo ? 22 : 23, (struct batman_route){0, 0, 0, 0});
@@ -369,8 +380,9 @@ static struct batman_received own_message(uint64_t *c, const uint8_t *packet, co
 static struct batman_received others_message(uint64_t *c, const uint8_t *packet, size_t length, const struct arrival *m, uint8_t *output)
 {
     uint64_t *rows = c + NEIGHBOURS_AT, *records = c + ALL_RECORDS_AT, window = c[WINDOW_AT];
-    size_t n = (size_t)c[RECORDS_AT], at = lower(records, RECORD, n, m->originator), row = lower(rows, NEIGHBOUR, (size_t)c[ROWS_AT], m->key);
-    bool bidirectional = stands(rows, NEIGHBOUR, (size_t)c[ROWS_AT], row, m->key), held = stands(records, RECORD, n, at, m->originator);
+    struct place p = find(records, RECORD, (size_t)c[RECORDS_AT], m->originator);
+    size_t at = p.at;
+    bool bidirectional = find(rows, NEIGHBOUR, (size_t)c[ROWS_AT], m->key).found, held = p.found;
     bool direct = m->key >> 2 == m->originator, duplicate = held && is_duplicate(records + at * RECORD, window, m->key, m->sequence);
     uint64_t *r = records + at * RECORD, last_ttl = held ? r[LAST_TTL] : 0;
     if (bidirectional && !duplicate) {
@@ -532,4 +544,18 @@ static struct batman_located lookup(const void *table, size_t count, uint32_t ad
     return s.best;
 }
 
-const struct version VERSION = {"cells", true, size, make, receive, burst, own_packet, sweep, best, lookup, packet_check};
+static struct searches search(const void *table, size_t count, const uint32_t *originators, size_t n)
+{
+    const uint64_t *c = table;
+    struct searches all = {0, 0, 0};
+    if (!well_formed(c, count))
+        return (struct searches){1, 0, 0};
+    for (size_t i = 0; i < n; i++) {
+        struct place p = find(c + ALL_RECORDS_AT, RECORD, (size_t)c[RECORDS_AT], originators[i]);
+        all.held += p.found;
+        all.most = p.rounds > all.most ? p.rounds : all.most;
+    }
+    return all;
+}
+
+const struct version VERSION = {"cells", true, size, make, receive, burst, own_packet, sweep, best, lookup, search, packet_check};

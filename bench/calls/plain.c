@@ -441,4 +441,13 @@ static struct batman_located lookup(const void *table, size_t count, uint32_t ad
     return best;
 }
 
-const struct version VERSION = {"plain", false, size, make, receive, burst, own_packet, sweep, best, lookup, packet_check};
+static struct searches search(const void *table, size_t count, const uint32_t *originators, size_t n)
+{
+    struct searches all = {0, 0, 0};
+    (void)count;
+    for (size_t i = 0; i < n; i++)
+        all.held += find((struct plain *)table, originators[i]) != NULL;
+    return all;
+}
+
+const struct version VERSION = {"plain", false, size, make, receive, burst, own_packet, sweep, best, lookup, search, packet_check};

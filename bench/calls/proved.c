@@ -1,4 +1,16 @@
-/* The library's calls as a row of functions. */
+/* The library's calls as a row of functions. Compiled a second time with BEFORE where another archive of the library is timed beside: its calls' names then begin with
+ * `before_`. */
+#ifdef BEFORE
+#define batman_cells_needed before_batman_cells_needed
+#define batman_make before_batman_make
+#define batman_receive before_batman_receive
+#define batman_receive_burst before_batman_receive_burst
+#define batman_own_packet before_batman_own_packet
+#define batman_sweep before_batman_sweep
+#define batman_best before_batman_best
+#define batman_lookup before_batman_lookup
+#define batman_packet_check before_batman_packet_check
+#endif
 #include "calls.h"
 
 static size_t size(uint64_t capacity) { return (size_t)batman_cells_needed(capacity) * sizeof(uint64_t); }
@@ -32,4 +44,13 @@ static struct batman_asked best(const void *table, size_t count, uint32_t origin
 
 static struct batman_located lookup(const void *table, size_t count, uint32_t address) { return batman_lookup(table, count, address); }
 
-const struct version proved = {"proved", true, size, make, receive, burst, own_packet, sweep, best, lookup, batman_packet_check};
+#ifdef BEFORE
+const struct version before = {"before", true, size, make, receive, burst, own_packet, sweep, best, lookup, NULL, batman_packet_check};
+#else
+/* Of an archive of its own (crate bench_search), since no call of batman.h is a search alone. */
+struct searches bench_search(const uint64_t *cells, size_t count, const uint32_t *originators, size_t n);
+
+static struct searches search(const void *table, size_t count, const uint32_t *originators, size_t n) { return bench_search(table, count, originators, n); }
+
+const struct version proved = {"proved", true, size, make, receive, burst, own_packet, sweep, best, lookup, search, batman_packet_check};
+#endif

@@ -1,0 +1,2 @@
+-- Searches for many originators.
+pub mod Searches
