@@ -587,9 +587,6 @@ static double beside_cells(int row, int size)
 
 static double beside_singles(int row, int size) { return took[row][size][PROVED] / took[row][size][SINGLES]; }
 
-#ifdef BEFORE
-static double beside_before(int row, int size) { return row == SEARCH ? 0 : took[row][size][PROVED] / took[row][size][EARLIER]; }
-#endif
 
 static void print_row(int row, int size)
 {
@@ -599,7 +596,7 @@ static void print_row(int row, int size)
     printf("| %-28s | %11u | %9.1f | %6.1f %c | %5.2f | %5.1f %c |", rows[row].name, sizes[size], ns[PROVED], cells, cells_by, beside_cells(row, size),
            plain, plain_by);
 #ifdef BEFORE
-    printf(" %9.1f | %9.3f |", ns[EARLIER], beside_before(row, size));
+    printf(" %9.1f | %9.3f |", ns[EARLIER], ns[EARLIER] > 0 ? ns[PROVED] / ns[EARLIER] : 0);
 #endif
     if (rows[row].burst > 0)
         printf(" %9.1f | %11.2f |", ns[SINGLES], beside_singles(row, size));
@@ -643,15 +640,6 @@ static double slowest_receive(int size)
 #ifdef BEFORE
 #define COLUMNS_BEFORE " before ns | of before |"
 #define RULE_BEFORE "---:|---:|"
-
-static double slowest_beside_before(void)
-{
-    double most = 0;
-    for (int row = 0; row < ROWS; row++)
-        for (int size = 0; size < SIZES; size++)
-            most = larger(most, beside_before(row, size));
-    return most;
-}
 #else
 #define COLUMNS_BEFORE ""
 #define RULE_BEFORE ""
@@ -672,9 +660,6 @@ static void print_all(void)
     print_aim("a packet of any burst beside (a)", 1.10, slowest_from(BURST_8));
     print_aim("any call beside (a)", 1.10, slowest_from(0));
     print_aim("receive at 64 originators, in microseconds", 2, slowest_receive(AT_64));
-#ifdef BEFORE
-    print_aim("any call beside the other archive's", 1.00, slowest_beside_before());
-#endif
 }
 
 int main(void)
