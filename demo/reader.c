@@ -120,6 +120,7 @@ static bool handle_answer(struct reader *r, struct batman_received a)
     case BATMAN_ECHO: /* our last packet came back: from now on this neighbour's link counts as bidirectional */
     case BATMAN_OWN_ORIGINATOR: /* our own packet by a longer way, or an older one */
     case BATMAN_UNIDIRECTIONAL: /* its sender had it over a link that works in one direction only: it says nothing of a way back */
+    case BATMAN_STALE: /* held back on its way. Where one comes every interval, its originator has started again at a lower number, or somebody forges higher ones: log that now and then */
         return false;
     case BATMAN_KEPT: /* taken: a daemon compares a.route with the kernel's route to the originator, and changes that where they differ */
         return false;
@@ -192,6 +193,7 @@ const char *reader_meaning(unsigned number)
     case BATMAN_ECHO: return "our own, straight back: the link is bidirectional";
     case BATMAN_OWN_ORIGINATOR: return "our own, by another way";
     case BATMAN_UNIDIRECTIONAL: return "over a link of one direction";
+    case BATMAN_STALE: return "stale: its number is too far back";
     case BATMAN_KEPT: return "taken, not passed on";
     case BATMAN_PASSED_ON: return "taken and passed on";
     default: return "unknown";

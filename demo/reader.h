@@ -9,7 +9,7 @@
 #include "relay_filter.h"
 
 enum {
-    READER_ANSWERS = 27,                                   /* refusals are 1 to 16, verdicts 20 to 26 */
+    READER_ANSWERS = 28,                                   /* refusals are 1 to 16, verdicts 20 to 27 */
     READER_OCTETS = BATMAN_PACKETS_MOST * BATMAN_READ_SIZE /* of the packets of a burst, each as long as a datagram that is read can be */
 };
 

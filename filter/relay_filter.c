@@ -36,7 +36,8 @@ static uint16_t distance(uint16_t from, uint16_t to) { return (uint16_t)(to - fr
 
 static uint8_t *ttl_of(struct relay_filter_row *r, uint16_t number) { return &r->ttl[number % RELAY_FILTER_NUMBERS]; }
 
-/* A number outside the window becomes the latest, as the table takes it: a little ahead, or anywhere else where the node has started again. */
+/* A number outside the window becomes the latest, as the table takes it: a little ahead, or anywhere else where the node has started again and a sweep had removed its record. A stale
+ * one is not passed on, so it doesn't come here. */
 static void move_to(struct relay_filter_row *r, uint16_t number, unsigned window)
 {
     if (distance(r->latest, number) >= window)

@@ -55,16 +55,34 @@ enum batman_refusal {
     BATMAN_ENTRIES_FULL = 15      /* a message with more than 16 HNA entries that would replace its originator's list: it makes the record or has a new number */
 };
 
-/* What a received packet that is not refused gets: the first that applies, in this order. */
+/* What a received packet that is not refused gets: the first that applies, in the order of this list, which is not that of the numbers: 27 stands between 24 and 25. */
 enum batman_verdict {
     BATMAN_OWN_SENDER = 20,       /* the sender is one of our addresses */
     BATMAN_OWN_BROADCAST = 21,    /* the sender is one of our broadcast addresses */
     BATMAN_ECHO = 22,             /* the echo of our last packet: its link is bidirectional */
     BATMAN_OWN_ORIGINATOR = 23,   /* our own packet, but no such echo */
     BATMAN_UNIDIRECTIONAL = 24,   /* its U flag is set: its sender had it over a link of one direction */
+    BATMAN_STALE = 27,            /* the originator is held, and the number is stale (below): neither counted nor passed on, by whichever link it came, also from the originator itself */
     BATMAN_KEPT = 25,             /* counted or not, and not passed on */
     BATMAN_PASSED_ON = 26         /* counted or not, and passed on: the copy for the receiving interface is in the output */
 };
+
+/* ---- sequence numbers
+ *
+ * They go modulo 65,536. Of each originator that it holds the table has the current number: that of the counted message that made the record, or the latest new one that was counted
+ * since. A number of that originator is one of three things:
+ *
+ *   new     1 to 32,767 above current: (uint16_t)(number - current) is in that range. Counted, it becomes current, and the window moves up to it
+ *   inside  current, or one of the window - 1 numbers below it: (uint16_t)(current - number) is less than the window size. Counted, it moves nothing
+ *   stale   any other, from the first number below the window down to the one half way round, 32,768 away: the message gets 27
+ *
+ * 27 changes no cell but that of the table's time: no mark, no link, no entry, and not the time of the record, which a sweep goes by. Its answer has the originator's route, which stays as
+ * it was, every other field is 0, and nothing is written to the output. Such a packet was held back on its way; or its originator has started again at a lower number; or somebody has
+ * forged a higher one.
+ *
+ * Without a record nothing is stale: the first message that is counted makes the record, whatever its number. So a node that has started again at a lower number is taken up once a sweep
+ * has removed its record, or its numbers have come up to the window. Until then nobody who holds it passes its packets on, so that it gets no echo either. It need not come to that: give
+ * make a first number that is new to the others (docs/INTEGRATION.md, "After a restart"). */
 
 /* ---- what is lent
  *
@@ -114,7 +132,7 @@ struct batman_settings {
 struct batman_interface {
     uint32_t own;       /* own address; those in use differ */
     uint32_t broadcast; /* broadcast address */
-    uint16_t first;     /* the first sequence number */
+    uint16_t first;     /* the first sequence number; after a restart one that is new to the others */
 };
 
 /* Four rows, of which the first `used` are in use, 1 to 4; they are numbered from 0, and the others are ignored. */
@@ -185,7 +203,8 @@ uint64_t batman_cells_needed(uint64_t capacity);
 uint64_t batman_make(uint64_t *cells, size_t count, struct batman_settings settings, struct batman_interfaces interfaces);
 
 /* Takes a received packet: `length` octets from `sender`, heard by `interface` at `time` in milliseconds. Refused by 1 to 8, 16,
- * 9, 10, 11 and 15, in this order: so a packet with host bits set in any of its HNA entries is refused whoever sent it, and never passed on.
+ * 9, 10, 11 and 15, in this order: so a packet with host bits set in any of its HNA entries is refused whoever sent it, and never passed on. 10, 11 and 15 are for messages
+ * that would be counted, so that a stale one gets 27 and none of them.
  * With 26 the first `length` octets of the output are the copy to be sent on the receiving interface; nothing else is ever written there.
  * `room` is how many octets the output has, and must be at least `length` whatever the verdict: 4 stands before 5, so a stranger's long datagram
  * gets 4 from a shorter output. Read datagrams into BATMAN_READ_SIZE octets, lend an output of as many, and drop what gets 4. */
@@ -213,7 +232,8 @@ struct batman_burst batman_receive_burst(uint64_t *cells, size_t count, const ui
 struct batman_written batman_own_packet(uint64_t *cells, size_t count, uint64_t interface, uint64_t time, uint8_t ttl, uint8_t gateway,
                                         uint16_t port, const uint8_t *hna, size_t hna_length, uint8_t *output, size_t room);
 
-/* Removes the originators last heard more than the purge timeout ago. Refused by 1 and 3. */
+/* Removes the originators whose latest counted message is more than the purge timeout ago. Refused by 1 and 3. Call it every second or so: no other call but make removes an
+ * originator, and one that has started again at a lower number may get 27 for as long as its old record is held. */
 struct batman_swept batman_sweep(uint64_t *cells, size_t count, uint64_t time);
 
 /* The best link to an originator, or no route. Refused by 1 alone; changes nothing. */
@@ -227,8 +247,8 @@ struct batman_listed batman_list(const uint64_t *cells, size_t count, uint32_t o
 /* ---- networks behind the originators
  *
  * The table keeps the HNA entries of each originator that it holds: up to 16, in packet order, repeats included. A counted message that makes the record or has a new
- * number (one outside the window) replaces them by its own, and by none where it has none. Every other message leaves them: one with a number inside the
- * window, a duplicate, one that isn't counted. A sweep removes them with their record, make removes all.
+ * number (1 to 32,767 above current) replaces them by its own, and by none where it has none. Every other message leaves them: one with a number inside the
+ * window, a duplicate, one that isn't counted, a stale one among these. A sweep removes them with their record, make removes all.
  *
  * A message that would replace them by more than 16 is refused by 15, and nothing of it is taken. To a daemon that means: an originator that announces more is not
  * taken up; one that is held keeps its older entries, and is swept where nothing else of it is counted for the purge timeout. Nor is such a packet passed on, so that

@@ -10,7 +10,10 @@
 
 /* Places in a table and in a record that are looked at here, by docs/LAYOUT.md. */
 enum { VERSION_AT = 0, TIE_AT = 5, TIME_AT = 7, INTERFACES_AT = 10, INTERFACE_CELLS = 5 };
-enum { ENTRIES_HELD_AT = 6, ENTRIES_AT = 23 };
+enum { CURRENT_AT = 1, ENTRIES_HELD_AT = 6, ENTRIES_AT = 23 };
+
+/* Sequence numbers there are; a new one is at most NEW_MOST above current, so that the one half way round is not. */
+enum { NUMBERS = 65536, NEW_MOST = 32767, HALF_WAY = NUMBERS / 2 };
 
 enum { CELLS = BATMAN_CELLS(64) };
 
@@ -193,7 +196,7 @@ static void echo(uint32_t first, uint32_t last)
         expect("an echo", seen(hear(neighbour, US, 65535, 64, 50).number), BATMAN_ECHO);
 }
 
-/* Before calls that are refused; and after them, that they have changed no cell and no octet of the output. */
+/* Before calls that change nothing; and after them, that no cell and no octet of the output is another. */
 static void keep_all(void)
 {
     memcpy(small_kept, small, sizeof small);
@@ -202,9 +205,9 @@ static void keep_all(void)
 
 static void all_kept(void)
 {
-    expect("a refused call changed a cell", memcmp(small, small_kept, sizeof small) != 0, 0);
+    expect("a cell was changed", memcmp(small, small_kept, sizeof small) != 0, 0);
     for (size_t i = 0; i < sizeof output; i++)
-        expect("a refused call wrote an octet", output[i], 238);
+        expect("an octet was written", output[i], 238);
 }
 
 /* The answer to a packet is this refusal, and every field behind its place is 0. */
@@ -930,17 +933,18 @@ static void leaves(const char *what, uint32_t sender, struct announcement a, uin
     not_found(what, other);
 }
 
-/* A number outside the window replaces the list, above and below, also with no entries, and also where the TTL doesn't let the message go on. */
+/* A new number replaces the list, the least and the most above current, also with no entries, and also where the TTL doesn't let the message go on. */
 static void lists_replaced(void)
 {
-    struct announcement low = with(announce(900, 14), OLD, 32);
+    enum { FAR = 11 + NEW_MOST };
+    struct announcement low = with(announce(900, FAR + 2), OLD, 32);
     low.octets[2] = 1;
     begin_with_old();
     leaves("the next number", HEARD_FROM, with(announce(900, 11), NEW, 32), BATMAN_PASSED_ON, NEW, OLD);
-    leaves("the first number below the window", HEARD_FROM, with(announce(900, 11 - NETWORKS_WINDOW), OLD, 32), BATMAN_PASSED_ON, OLD, NEW);
-    leaves("a new number by a link that doesn't become best", 2, with(announce(900, 4), NEW, 32), BATMAN_KEPT, NEW, OLD);
+    leaves("the last number that is new", HEARD_FROM, with(announce(900, FAR), OLD, 32), BATMAN_PASSED_ON, OLD, NEW);
+    leaves("a new number by a link that doesn't become best", 2, with(announce(900, FAR + 1), NEW, 32), BATMAN_KEPT, NEW, OLD);
     leaves("a new number with TTL 1", HEARD_FROM, low, BATMAN_KEPT, OLD, NEW);
-    take_entries(announce(900, 15));
+    take_entries(announce(900, FAR + 3));
     not_found("a new number without entries", OLD);
 }
 
@@ -948,6 +952,7 @@ static void lists_replaced(void)
 static void lists_left(unsigned more)
 {
     struct announcement inside = with_many(with(announce(900, 11 - NETWORKS_WINDOW), NEW, 32), more), same = with_many(with(announce(900, 10), NEW, 32), more);
+    struct announcement below = with_many(with(announce(900, 10 - NETWORKS_WINDOW), NEW, 32), more), far = with_many(with(announce(900, 10 + HALF_WAY), NEW, 32), more);
     struct announcement later = with_many(with(announce(900, 11), NEW, 32), more), marked = later, back = with_many(with(announce(US, 65535), NEW, 32), more);
     marked.octets[1] = 128;
     back.octets[1] = 64;
@@ -955,6 +960,8 @@ static void lists_left(unsigned more)
     leaves("a duplicate of the best link", HEARD_FROM, same, BATMAN_PASSED_ON, OLD, NEW);
     leaves("the last number of the window", HEARD_FROM, inside, BATMAN_PASSED_ON, OLD, NEW);
     leaves("that number again", HEARD_FROM, inside, BATMAN_PASSED_ON, OLD, NEW);
+    leaves("the first number below the window", HEARD_FROM, below, BATMAN_STALE, OLD, NEW);
+    leaves("the number half way round", HEARD_FROM, far, BATMAN_STALE, OLD, NEW);
     leaves("the current number by another link", 1, same, BATMAN_KEPT, OLD, NEW);
     leaves("a new number by a link without a row", NEIGHBOURS + 1, later, BATMAN_KEPT, OLD, NEW);
     leaves("a new number with U set", HEARD_FROM, marked, BATMAN_UNIDIRECTIONAL, OLD, NEW);
@@ -1009,7 +1016,7 @@ static void too_many_entries(void)
     take_entries(many(900, 5, BATMAN_ENTRIES_MOST));
     entries_refused("17 entries in a new number", many(900, 6, TOO_MANY), BATMAN_ENTRIES_FULL, 0);
     entries_refused("292 entries in a new number", many(900, 6, PACKET_ENTRIES_MOST), BATMAN_ENTRIES_FULL, 0);
-    entries_refused("17 entries in a number below the window", many(900, 65530, TOO_MANY), BATMAN_ENTRIES_FULL, 0);
+    entries_refused("17 entries in the last number that is new", many(900, 5 + NEW_MOST, TOO_MANY), BATMAN_ENTRIES_FULL, 0);
     found("the list is the one before", dotted(10, 9, 15, 1), 900, dotted(10, 9, 15, 0), 24);
 }
 
@@ -1229,6 +1236,7 @@ static void no_verdict_on_host_bits(void)
         {"host bits with U set", HEARD_FROM, 900, 11, 128},
         {"host bits in a new number", HEARD_FROM, 900, 11, 0},
         {"host bits in a number inside the window", HEARD_FROM, 900, 11 - NETWORKS_WINDOW, 0},
+        {"host bits in a stale number", HEARD_FROM, 900, 10 - NETWORKS_WINDOW, 0},
         {"host bits in a duplicate", HEARD_FROM, 900, 10, 0},
         {"host bits by a link without a row", NEIGHBOURS + 1, 900, 11, 0},
         {"host bits in a neighbour's own message before its echo", 77, 77, 1, 0},
@@ -1363,10 +1371,215 @@ static void networks(void)
     held_host_bits();
 }
 
+/* ---- stale numbers (27): 900 is held over the links of eight neighbours, 901 over its own; a ninth neighbour has a row and no link, SILENT has neither */
+
+enum { SILENT = 77 };
+
+/* 901's current number lies half way round from 900's, so that the current number of one is stale for the other: each is judged by its own record. */
+static void begin_held(uint64_t window, uint16_t current)
+{
+    struct batman_settings s = defaults;
+    s.window = window;
+    begin(s);
+    echo(1, NEIGHBOURS);
+    echo(901, 901);
+    for (uint32_t link = 1; link <= BATMAN_LINKS_MOST; link++)
+        hear_entries(link, with(announce(900, current), OLD, 32));
+    hear_entries(901, announce(901, (uint16_t)(current + HALF_WAY)));
+}
+
+/* The current number of one of the two. */
+static uint16_t current_of(uint32_t originator)
+{
+    return (uint16_t)small[BATMAN_TABLE_CELLS + BATMAN_RECORD_CELLS * (originator - 900) + CURRENT_AT];
+}
+
+/* Each number there is comes by the best link: where it lies says whether it is stale, and which number is then current. */
+static void every_number(uint64_t window, uint16_t current)
+{
+    char what[64];
+    begin_held(window, current);
+    memcpy(small_kept, small, sizeof small);
+    for (uint32_t above = 0; above < NUMBERS; above++) {
+        uint16_t number = (uint16_t)(current + above);
+        bool is_new = above >= 1 && above <= NEW_MOST, is_inside = above == 0 || above > NUMBERS - window;
+        snprintf(what, sizeof what, "%d, current %d, window %d", number, current, (int)window);
+        memcpy(small, small_kept, sizeof small);
+        expect(what, hear(1, 900, number, 0, 50).number, is_new || is_inside ? BATMAN_PASSED_ON : BATMAN_STALE);
+        expect(what, current_of(900), is_new ? number : current);
+    }
+}
+
+static void every_number_there_is(void)
+{
+    static const uint64_t windows[] = {1, 8, 64};
+    static const uint16_t currents[] = {0, 10, HALF_WAY, NUMBERS - 1};
+    for (size_t i = 0; i < sizeof windows / sizeof *windows; i++)
+        for (size_t k = 0; k < sizeof currents / sizeof *currents; k++)
+            every_number(windows[i], currents[k]);
+}
+
+/* A stale message of a held originator, a millisecond later: its route as it stood, every other field 0, nothing written, and of all cells only the time's is another. */
+static void is_stale(const char *what, uint32_t sender, uint32_t originator, struct announcement a)
+{
+    struct batman_route route = batman_best(small, SMALL, originator).route;
+    keep_all();
+    small_kept[TIME_AT]++;
+    struct batman_received r = batman_receive(small, SMALL, a.octets, a.length, sender, 0, small_kept[TIME_AT], output, sizeof output);
+    expect(what, seen(r.number), BATMAN_STALE);
+    expect("its originator is held", route.window > 0, true);
+    expect("its route is another", memcmp(&r.route, &route, sizeof route) != 0, 0);
+    expect("its place and flags", r.place + r.flags, 0);
+    all_kept();
+}
+
+/* By any link, from the originator itself too, and where counting would be refused by 11 or 15. */
+static void stale_messages(void)
+{
+    enum { WINDOW = 8 };
+    static const uint16_t above[] = {HALF_WAY, HALF_WAY + 1, NUMBERS - WINDOW};
+    static const struct {
+        const char *what;
+        uint32_t sender, originator;
+        uint8_t flags, ttl;
+        unsigned entries;
+    } heard[] = {
+        {"stale by the best link", 1, 900, 0, 50, 1},
+        {"stale by another link", 2, 900, 0, 50, 1},
+        {"stale by a link that would be the ninth", NEIGHBOURS, 900, 0, 50, 1},
+        {"stale by a link without a row", SILENT, 900, 0, 50, 1},
+        {"stale from the originator, which has a row", 901, 901, 0, 50, 0},
+        {"stale from the originator, which has none", 900, 900, 0, 50, 0},
+        {"stale with every flag but U", 1, 900, 127, 50, 0},
+        {"stale with the largest TTL", 901, 901, 0, 255, 0},
+        {"stale with TTL 0", 901, 901, 0, 0, 0},
+        {"stale with 17 entries", 1, 900, 0, 50, TOO_MANY},
+        {"stale with 292 entries by a link that would be the ninth", NEIGHBOURS, 900, 0, 50, PACKET_ENTRIES_MOST},
+    };
+    begin_held(WINDOW, 10);
+    for (size_t i = 0; i < sizeof heard / sizeof *heard; i++)
+        for (size_t k = 0; k < sizeof above / sizeof *above; k++) {
+            struct announcement a = many(heard[i].originator, (uint16_t)(current_of(heard[i].originator) + above[k]), heard[i].entries);
+            a.octets[1] = heard[i].flags;
+            a.octets[2] = heard[i].ttl;
+            is_stale(heard[i].what, heard[i].sender, heard[i].originator, a);
+        }
+}
+
+/* What is asked before gives the same number another verdict, and without a record no number is stale. */
+static void asked_before_stale(void)
+{
+    static const struct {
+        const char *what;
+        uint32_t sender, originator;
+        uint16_t number;
+        uint8_t flags;
+        uint64_t verdict;
+    } heard[] = {
+        {"a stale number", 1, 900, 10 + HALF_WAY, 0, BATMAN_STALE},
+        {"a stale number from an own address", US_TOO, 900, 10 + HALF_WAY, 0, BATMAN_OWN_SENDER},
+        {"a stale number from a broadcast address", BROADCAST, 900, 10 + HALF_WAY, 0, BATMAN_OWN_BROADCAST},
+        {"a stale number with U set", 1, 900, 10 + HALF_WAY, 128, BATMAN_UNIDIRECTIONAL},
+        {"a stale number with U set, from the originator", 901, 901, 10, 128, BATMAN_UNIDIRECTIONAL},
+        {"our last number, back from a neighbour", 1, US, 65535, 64, BATMAN_ECHO},
+        {"a number of ours half way round", 1, US, HALF_WAY - 1, 64, BATMAN_OWN_ORIGINATOR},
+        {"a number of our other interface, which hasn't sent", 1, US_TOO, HALF_WAY, 0, BATMAN_OWN_ORIGINATOR},
+        {"no record, from the originator", SILENT, SILENT, 10 + HALF_WAY, 0, BATMAN_PASSED_ON},
+        {"no record, the number half way round from that", SILENT, SILENT, 10, 0, BATMAN_PASSED_ON},
+        {"no record, by a link without a row", SILENT, 902, 10 + HALF_WAY, 0, BATMAN_KEPT},
+        {"no record, and no place for one", 1, 902, 10 + HALF_WAY, 0, BATMAN_ORIGINATORS_FULL},
+    };
+    begin_held(8, 10);
+    for (size_t i = 0; i < sizeof heard / sizeof *heard; i++)
+        expect(heard[i].what, hear(heard[i].sender, heard[i].originator, heard[i].number, heard[i].flags, 50).number, heard[i].verdict);
+}
+
+/* The first counted message makes the record, whatever its number: 901's says nothing of 900's. */
+static void first_number(void)
+{
+    static const uint16_t numbers[] = {0, 1, 10, NEW_MOST, HALF_WAY, HALF_WAY + 1, 10 + HALF_WAY, NUMBERS - 1};
+    for (size_t i = 0; i < sizeof numbers / sizeof *numbers; i++) {
+        begin_networks();
+        take_entries(announce(901, 10));
+        take_entries(announce(900, numbers[i]));
+        expect("the first number is current", current_of(900), numbers[i]);
+    }
+}
+
+/* The packets of packets_refused are 900's number 1, which is stale here: they get what is wrong with them, and without a fault 27. */
+static void refused_before_stale(void)
+{
+    begin_held(64, 200);
+    packets_refused(0);
+    packets_refused(HOST);
+    entries_refused("host bits in a stale message", with_host_bits(announce(900, 1)), BATMAN_HOST_BITS_SET, 0);
+    entries_refused("host bits in a stale message with 17 entries", with_host_bits(many(900, 1, TOO_MANY)), BATMAN_HOST_BITS_SET, TOO_MANY);
+    is_stale("that message without a fault", HEARD_FROM, 900, announce(900, 1));
+}
+
+/* Links, counts and entries are those before it, and the next number is counted beside what was marked. */
+static void stale_between_counted(void)
+{
+    struct batman_link_row before[BATMAN_LINKS_MOST], after[BATMAN_LINKS_MOST];
+    begin_held(8, 10);
+    expect("links before a stale message", batman_list(small, SMALL, 900, before, BATMAN_LINKS_MOST).filled, BATMAN_LINKS_MOST);
+    is_stale("a number held back", 1, 900, with(announce(900, 2), NEW, 32));
+    expect("links after it", batman_list(small, SMALL, 900, after, BATMAN_LINKS_MOST).filled, BATMAN_LINKS_MOST);
+    expect("the links are others", memcmp(before, after, sizeof before) != 0, 0);
+    found("the entry before it", OLD, 900, OLD, 32);
+    expect("the count after the next number", hear_entries(1, announce(900, 11)).route.count, 2);
+}
+
+/* Each packet is judged by the window that those before it left: 3 is inside until 11 comes, and 12 current until the one far above it comes. */
+static void stale_in_a_burst(void)
+{
+    static const uint64_t numbers[] = {BATMAN_PASSED_ON, BATMAN_PASSED_ON, BATMAN_STALE, BATMAN_STALE, BATMAN_PASSED_ON, BATMAN_STALE, BATMAN_PASSED_ON, BATMAN_STALE};
+    struct burst b = no_packets();
+    begin_held(8, 10);
+    add_message(&b, 1, message(900, 3, 0, 50), 12);
+    add_message(&b, 1, message(900, 11, 0, 50), 12);
+    add_message(&b, 2, message(900, 3, 0, 50), 12);
+    add_message(&b, 901, message(901, 10, 0, 50), 12);
+    add_message(&b, 1, message(900, 12, 0, 50), 17);
+    add_message(&b, SILENT, message(900, 12 + HALF_WAY, 0, 50), 12);
+    add_message(&b, 1, message(900, 12 + NEW_MOST, 0, 50), 12);
+    add_message(&b, 1, message(900, 12, 0, 50), 12);
+    expect("octets written of a burst with stale packets", answered("a burst with stale packets", &b, numbers), 12 + 12 + 17 + 12);
+    expect("the count in the last answer", b.answers[7].route.count, 1);
+}
+
+/* 900 starts again at 1. Its stale messages don't renew its record: the first sweep after the purge timeout removes it, and the next message makes another. */
+static void taken_up_after_a_sweep(void)
+{
+    begin_held(64, 20000);
+    uint64_t heard = small[TIME_AT];
+    is_stale("the first number again", 1, 900, announce(900, 1));
+    is_stale("the next one, from the originator itself", 900, 900, announce(900, 2));
+    expect("a sweep before the timeout", batman_sweep(small, SMALL, heard + defaults.purge).removed, 0);
+    is_stale("a number after that sweep", 1, 900, announce(900, 3));
+    expect("the sweep after the timeout", batman_sweep(small, SMALL, small[TIME_AT]).removed, 2);
+    take_entries(with(announce(900, 4), NEW, 32));
+    expect("the number that is current", current_of(900), 4);
+    found("the entry of that message", NEW, 900, NEW, 32);
+    not_found("the one of the earlier record", OLD);
+}
+
+static void stale_numbers(void)
+{
+    every_number_there_is();
+    stale_messages();
+    asked_before_stale();
+    first_number();
+    refused_before_stale();
+    stale_between_counted();
+    stale_in_a_burst();
+    taken_up_after_a_sweep();
+}
+
 /* Every refusal, of which 16 is the largest, and every verdict. */
 static void all_came_up(void)
 {
-    for (int n = BATMAN_NOT_WELL_FORMED; n <= BATMAN_PASSED_ON; n++)
+    for (int n = BATMAN_NOT_WELL_FORMED; n <= BATMAN_STALE; n++)
         if (n <= BATMAN_HOST_BITS_SET || n >= BATMAN_OWN_SENDER)
             expect("a number that never came up", (uint64_t)(came_up[n] ? 0 : n), 0);
 }
@@ -1384,6 +1597,7 @@ int main(void)
     ties();
     bursts();
     networks();
+    stale_numbers();
     all_came_up();
     printf("calls: %lu answers and cells compared; %lu differ\n", compared, differing);
     return differing != 0;

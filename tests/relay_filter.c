@@ -116,7 +116,7 @@ static void skipped_numbers(void)
     check(!drops(&filter, A, 59, 48, 0), "as far as the window goes");
 }
 
-/* A node that starts again anywhere outside the window is taken as the table takes it: at once, and what it sent before is forgotten. */
+/* A node that starts again anywhere outside the window: once the table passes a message of it on, as its number is new or its old record was swept, what it sent before is forgotten. */
 static void starts_again_elsewhere(void)
 {
     static const uint16_t starts[] = {1, 935, 936, 30000, 65535};

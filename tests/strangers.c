@@ -14,11 +14,12 @@
 #include "../demo/random.h"
 #include "batman.h"
 
-/* Places in a table and in a record, by docs/LAYOUT.md; bits of a flags octet, by RULES 3.3. */
+/* Places in a table and in a record, by docs/LAYOUT.md; bits of a flags octet, by RULES 3.3; sequence numbers there are, and how far above current the last new one lies, by RULES 4.2. */
 enum { TIME_AT = 7, LINKS_HELD_AT = 4, ENTRIES_HELD_AT = 6, LINKS_AT = 7, LINK_CELLS = 2, ENTRIES_AT = 23, CELL_BITS = 64 };
 enum { U = 128, D = 64, FLAGS_AT = 1, TTL_AT = 2 };
+enum { NUMBERS = 65536, NEW_MOST = 32767 };
 
-/* Milliseconds between two own packets (draft 8), the TTL of every message here, and a number far outside every window. */
+/* Milliseconds between two own packets (draft 8), the TTL of every message here, and a number far above those that are sent, and still new. */
 enum { INTERVAL = 1000, TTL = 50, FAR = 30000 };
 
 /* We have up to two interfaces; THEY are another node of this kind. NEAR and NEAR_TOO are honest neighbours, ORIGINATOR is an honest node further off.
@@ -223,23 +224,30 @@ static void table_is_filled(void)
           BATMAN_HEADER_SIZE, BATMAN_CAPACITY_MOST);
 }
 
-/* A new neighbour echoes and sends, and the node sweeps, every interval up to the purge timeout after the last invented message. */
-static void try_until_purge(void)
+/* A neighbour echoes and brings an originator's numbers, one after the other, and the node sweeps, every interval from now up to the purge timeout: each message gets
+ * this answer, and no sweep removes anything. */
+static void answered_until_purge(uint32_t originator, uint16_t number, uint64_t answer)
 {
     for (uint64_t i = 0; i < defaults.purge / INTERVAL; i++) {
         send_own(&us);
         echoes(&us, NEAR, 1);
         must("a sweep before the purge timeout is over", batman_sweep(us.cells, us.count, us.now).removed, 0);
-        must("a neighbour's message until then", hear(&us, NEAR, NEAR, (uint16_t)i).number, BATMAN_ORIGINATORS_FULL);
+        must("a message until then", hear(&us, NEAR, originator, (uint16_t)(number + i)).number, answer);
     }
+}
+
+/* The next millisecond's sweep removes so many. */
+static void must_sweep(uint64_t originators)
+{
+    us.now++;
+    must("originators removed after the purge timeout", batman_sweep(us.cells, us.count, us.now).removed, originators);
 }
 
 static void table_is_full_until_purge(void)
 {
     fill_with_invented();
-    try_until_purge();
-    us.now++;
-    must("the sweep after it", batman_sweep(us.cells, us.count, us.now).removed, BATMAN_CAPACITY_MOST);
+    answered_until_purge(NEAR, 0, BATMAN_ORIGINATORS_FULL);
+    must_sweep(BATMAN_CAPACITY_MOST);
     must("a neighbour's message then", hear(&us, NEAR, NEAR, 1).number, BATMAN_PASSED_ON);
     claim("full table: so for %" PRIu64 " ms after the last of them; a sweep 1 ms later removes all %d, and the neighbour's message is counted", defaults.purge,
           BATMAN_CAPACITY_MOST);
@@ -248,13 +256,12 @@ static void table_is_full_until_purge(void)
 static void table_is_kept_full(void)
 {
     fill_with_invented();
-    try_until_purge();
+    answered_until_purge(NEAR, 0, BATMAN_ORIGINATORS_FULL);
     unsigned packets = us.packets;
     echoes(&us, STRANGER, 1);
     invent(&us, BATMAN_CAPACITY_MOST, 2);
     packets = us.packets - packets;
-    us.now++;
-    must("a sweep of renewed originators", batman_sweep(us.cells, us.count, us.now).removed, 0);
+    must_sweep(0);
     must("a neighbour's message to them", hear(&us, NEAR, NEAR, 1).number, BATMAN_ORIGINATORS_FULL);
     claim("full table: %u packets every %" PRIu64 " ms keep it full, one every %" PRIu64 " ms", packets, defaults.purge, defaults.purge / packets);
 }
@@ -335,7 +342,7 @@ static void must_be_single_hop(const uint8_t *packet, uint32_t sender)
 
 static void nothing_changes_without_an_echo(void)
 {
-    unsigned refused = 0, by_host_bits = 0, passed_on = 0, some = RANDOM_PACKETS / 20;
+    unsigned refused = 0, by_host_bits = 0, passed_on = 0, stale = 0, some = RANDOM_PACKETS / 20;
     state = random_seeded(16);
     begin_with_records();
     for (int i = 0; i < RANDOM_PACKETS; i++) {
@@ -348,13 +355,15 @@ static void nothing_changes_without_an_echo(void)
         refused += r.number < BATMAN_OWN_SENDER;
         by_host_bits += r.number == BATMAN_HOST_BITS_SET;
         passed_on += r.number == BATMAN_PASSED_ON;
+        stale += r.number == BATMAN_STALE;
         if (r.number == BATMAN_PASSED_ON)
             must_be_single_hop(packet, sender);
     }
     must("a twentieth of them at least is passed on", passed_on >= some, true);
     must("a twentieth of them at least is refused by 16", by_host_bits >= some, true);
-    claim("no echo: %d packets of any kind from senders without a neighbour row change no cell but the time's; %u are refused, %u of them by 16, and %u passed on, each as if from its originator",
-          RANDOM_PACKETS, refused, by_host_bits, passed_on);
+    must("half as many at least are stale", stale >= some / 2, true);
+    claim("no echo: %d packets of any kind from senders without a neighbour row change no cell but the time's; %u are refused, %u of them by 16, %u are stale, and %u passed on, each as if from its originator",
+          RANDOM_PACKETS, refused, by_host_bits, stale, passed_on);
 }
 
 /* We and another node hear each other; ours has this address on the link to it. */
@@ -429,43 +438,150 @@ static void must_be_wiped(const char *what, uint32_t link)
     must("the links that are left", links(&us, ORIGINATOR), 1);
 }
 
-static void replayed_packets_are_new(void)
+/* A stale message is neither passed on nor counted: of what was remembered only the time may be another. */
+static void must_be_stale(const char *what, uint32_t sender, uint16_t number)
 {
+    struct entry e = network(0);
+    must(what, hear_entries(&us, sender, ORIGINATOR, number, &e, 1).number, BATMAN_STALE);
+    must("only the time's cell changed by a stale message", only_time_differs(&us), true);
+}
+
+/* By the best link, by another, by links with an echo and without, and from the originator's own address. */
+static void stale_numbers_change_nothing(void)
+{
+    static const uint32_t senders[] = {NEAR, NEAR_TOO, STRANGER, MADE_UP, ORIGINATOR};
+    unsigned current = (unsigned)defaults.window, first = (unsigned)defaults.window, last = NUMBERS - NEW_MOST - 1;
+    begin_with_route();
+    echoes(&us, STRANGER, 1);
+    remember(&us);
+    for (unsigned below = first; below <= last; below++)
+        for (size_t i = 0; i < sizeof senders / sizeof *senders; i++, us.now++)
+            must_be_stale("a stale number", senders[i], (uint16_t)(current - below));
+    claim("stale: each of the %u numbers that lie %u to %u below the current one of a held originator, from its own address and by four links, with an echo and without, changes no cell but the time's and is not passed on",
+          last - first + 1, first, last);
+}
+
+/* An originator's numbers one after the other, as a neighbour brings them. */
+static void hear_numbers(uint32_t first, uint32_t last)
+{
+    for (uint32_t number = first; number <= last; number++)
+        must("a message of the originator", hear(&us, NEAR, ORIGINATOR, (uint16_t)number).number, BATMAN_PASSED_ON);
+    remember(&us);
+}
+
+/* Number 1 again: inside the window, just below it, half way round, and one number later. */
+static void replayed_packets(void)
+{
+    uint32_t window = (uint32_t)defaults.window, half_way = NUMBERS - NEW_MOST;
     begin_with_route();
     remember(&us);
     hear(&us, NEAR, ORIGINATOR, 1);
-    must("only the time's cell changed by a replay within the window", only_time_differs(&us), true);
-    must("the next number", hear(&us, NEAR, ORIGINATOR, (uint16_t)(defaults.window + 1)).number, BATMAN_PASSED_ON);
-    uint32_t count = count_of(&us, ORIGINATOR, NEAR), other_count = count_of(&us, ORIGINATOR, NEAR_TOO);
+    must("only the time's cell changed by a replay inside the window", only_time_differs(&us), true);
+    hear_numbers(window + 1, window + 1);
+    must_be_stale("a replay below the window", NEAR, 1);
+    hear_numbers(window + 2, half_way);
+    must_be_stale("a replay from half way round", NEAR, 1);
+    hear_numbers(half_way + 1, half_way + 1);
+    must_lead("the route before the last replay", &us, ORIGINATOR, NEAR, window);
     hear(&us, NEAR, ORIGINATOR, 1);
-    must_be_wiped("the route after a replay behind the window", NEAR);
-    claim("replayed: a packet whose number has left the window counts as new: one replay of a neighbour's own packet wipes %u and %u marks of two links", count,
-          other_count);
+    must_be_wiped("the route after it", NEAR);
+    claim("replayed: a neighbour's own packet changes no cell but the time's, also once its number has left the window; when its originator is %u numbers further it is new again, and wipes %u marks",
+          half_way, window);
 }
 
 /* ---- forged messages */
 
-static void forged_number_wipes_marks(void)
+/* A stranger with an echo sends one message of the originator, numbered so far ahead of its latest. */
+static void begin_forged(uint16_t ahead)
 {
     begin_with_route();
     echoes(&us, STRANGER, 1);
-    hear(&us, STRANGER, ORIGINATOR, FAR);
-    must_be_wiped("the route after a forged number", STRANGER);
-    claim("forged: one message with a number outside the window, from a stranger with an echo, wipes the marks of all links; his link is best with count 1");
+    hear(&us, STRANGER, ORIGINATOR, (uint16_t)(defaults.window + ahead));
 }
 
-static void forged_numbers_in_turn(void)
+static void forged_number_wipes_marks(void)
 {
-    enum { TURNS = 100 };
-    begin_with_route();
-    echoes(&us, STRANGER, 1);
-    for (uint16_t i = 1; i <= TURNS; i++) {
-        hear(&us, STRANGER, ORIGINATOR, (uint16_t)(FAR + i));
-        must_be_wiped("the route after each forged message", STRANGER);
-        hear(&us, NEAR, ORIGINATOR, (uint16_t)(defaults.window + i));
-        must_be_wiped("the route after each true message", NEAR);
+    const uint16_t ahead[] = {(uint16_t)defaults.window, NEW_MOST};
+    for (size_t i = 0; i < sizeof ahead / sizeof *ahead; i++) {
+        begin_forged(ahead[i]);
+        must_be_wiped("the route after a forged number", STRANGER);
     }
-    claim("forged: one such message after each true one, %d times: the route leads to the stranger from his message to the next true one; no count passes 1", TURNS);
+    claim("forged: one message numbered %d to %d ahead, from a stranger with an echo, wipes the marks of all links; his link is best with count 1", ahead[0], ahead[1]);
+}
+
+/* The true messages go on coming by the link that was best. */
+static void true_numbers_are_stale(void)
+{
+    uint16_t next = (uint16_t)(defaults.window + 1);
+    unsigned messages = (unsigned)(defaults.purge / INTERVAL);
+    begin_forged(NEW_MOST);
+    answered_until_purge(ORIGINATOR, next, BATMAN_STALE);
+    must_be_wiped("the route until then", STRANGER);
+    must_sweep(1);
+    hear(&us, NEAR, ORIGINATOR, (uint16_t)(next + messages));
+    must_be_wiped("the route after the next true message", NEAR);
+    claim("forged: every true message after it is stale, not counted and not passed on, %u of them, one an interval; the first sweep more than %" PRIu64 " ms after it removes the record, and the next true message is counted",
+          messages, defaults.purge);
+}
+
+static void true_numbers_are_kept_stale(void)
+{
+    enum { TIMES = 10 };
+    uint16_t next = (uint16_t)(defaults.window + 1), messages = (uint16_t)(defaults.purge / INTERVAL);
+    begin_with_route();
+    for (uint16_t i = 0; i < TIMES; i++) {
+        echoes(&us, STRANGER, 1);
+        must("a forged message", hear(&us, STRANGER, ORIGINATOR, (uint16_t)(FAR + i)).number, BATMAN_PASSED_ON);
+        must_lead("the route after it", &us, ORIGINATOR, STRANGER, i + 1u);
+        answered_until_purge(ORIGINATOR, (uint16_t)(next + messages * i), BATMAN_STALE);
+    }
+    claim("forged: an echo and one such message every %" PRIu64 " ms, each numbered one more, keep it so: %d true messages, all of them stale", defaults.purge, TIMES * messages);
+}
+
+/* The true numbers are stale as long as they lie a window or more below the forged one. The second that is counted has one mark more than the stranger's link. */
+static void true_numbers_catch_up(void)
+{
+    enum { AHEAD = 100 };
+    uint16_t number = (uint16_t)defaults.window, last = AHEAD;
+    unsigned stale = (unsigned)(last - number);
+    begin_forged(AHEAD);
+    remember(&us);
+    while (number < last)
+        must_be_stale("a true message", NEAR, ++number);
+    must("the next one", hear(&us, NEAR, ORIGINATOR, ++number).number, BATMAN_KEPT);
+    must("the one after that", hear(&us, NEAR, ORIGINATOR, ++number).number, BATMAN_PASSED_ON);
+    must_lead("the route then", &us, ORIGINATOR, NEAR, 2);
+    claim("forged: of a message numbered %d ahead the next %u true ones are stale; the next is counted, and the one after it has the route back", AHEAD, stale);
+}
+
+/* We pass the forged message on, as a new number by the best link is. */
+static void true_numbers_are_stale_elsewhere(void)
+{
+    begin_two(US);
+    echoes(&they, NEAR_TOO, 1);
+    echoes(&us, NEAR, 1);
+    echoes(&us, STRANGER, 1);
+    must("a true message", hear(&us, NEAR, ORIGINATOR, 1).number, BATMAN_PASSED_ON);
+    must("its copy at the next node", take(&they, us.output, BATMAN_HEADER_SIZE, US).number, BATMAN_PASSED_ON);
+    must("the forged message", hear(&us, STRANGER, ORIGINATOR, FAR).number, BATMAN_PASSED_ON);
+    must("its copy at the next node", take(&they, us.output, BATMAN_HEADER_SIZE, US).number, BATMAN_PASSED_ON);
+    must("the next true message at the next node, by another neighbour", hear(&they, NEAR_TOO, ORIGINATOR, 2).number, BATMAN_STALE);
+    claim("forged: the message is passed on like any other, so that at the next node too the true ones are stale, by whichever neighbour they come");
+}
+
+/* The message comes as if from the originator, which has no row with us; the node that it does harm to hears our other interface. */
+static void forged_number_crosses_to_another_interface(void)
+{
+    begin_two(US_TOO);
+    echoes(&they, NEAR_TOO, 1);
+    must("a true message at the next node", hear(&they, NEAR_TOO, ORIGINATOR, 1).number, BATMAN_PASSED_ON);
+    struct batman_received r = hear(&us, ORIGINATOR, ORIGINATOR, FAR);
+    must("the forged message", r.number, BATMAN_PASSED_ON);
+    must("only the time's cell changed in our table", only_time_differs(&us), true);
+    us.output[FLAGS_AT] = r.flags;
+    must("its copy at the next node", take(&they, us.output, BATMAN_HEADER_SIZE, US_TOO).number, BATMAN_PASSED_ON);
+    must("the next true message there", hear(&they, NEAR_TOO, ORIGINATOR, 2).number, BATMAN_STALE);
+    claim("forged: without an echo too, as if from the originator, to a node with several interfaces: nothing changes there, and a node that hears its other interface takes the number");
 }
 
 static void forger_stays_ahead(void)
@@ -561,13 +677,15 @@ static void forged_number_replaces_a_list(void)
 {
     struct entry e = network(0), his = network(1);
     begin_with_network();
-    hear_entries(&us, STRANGER, ORIGINATOR, FAR, &his, 1);
+    hear_entries(&us, STRANGER, ORIGINATOR, 1 + NEW_MOST, &his, 1);
     must_serve_none("the network after a forged number", &us, e.network);
-    must_serve("the forged network", &us, his.network, ORIGINATOR);
-    hear_entries(&us, NEAR, ORIGINATOR, 2, &e, 1);
+    answered_until_purge(ORIGINATOR, 2, BATMAN_STALE);
+    must_serve("the forged network until the sweep", &us, his.network, ORIGINATOR);
+    must_sweep(1);
+    must_serve_none("the forged network after the sweep", &us, his.network);
+    hear_entries(&us, NEAR, ORIGINATOR, (uint16_t)(2 + defaults.purge / INTERVAL), &e, 1);
     must_serve("the network after the next true message", &us, e.network, ORIGINATOR);
-    must_serve_none("the forged network then", &us, his.network);
-    claim("networks: a forged message of an originator with a number outside the window replaces its list, until its next message does the same");
+    claim("networks: a forged message of an originator numbered up to %d ahead replaces its list; its own messages are then stale, and the forged list stays until a sweep removes the record", NEW_MOST);
 }
 
 static void first_of_a_number_decides(void)
@@ -788,9 +906,14 @@ int main(void)
     junk_ends_after_one_repetition();
     junk_crosses_to_another_interface();
     repeated_packets_are_passed_on_again();
-    replayed_packets_are_new();
+    stale_numbers_change_nothing();
+    replayed_packets();
     forged_number_wipes_marks();
-    forged_numbers_in_turn();
+    true_numbers_are_stale();
+    true_numbers_are_kept_stale();
+    true_numbers_catch_up();
+    true_numbers_are_stale_elsewhere();
+    forged_number_crosses_to_another_interface();
     forger_stays_ahead();
     sender_is_forged();
     far_originator_as_neighbour();

@@ -4,6 +4,7 @@
 
 use crate::cells::cells_needed;
 use crate::packet::{self, Entry, Header, DIRECT, HEADER_OCTETS, UNIDIRECTIONAL};
+use crate::stale::Stale;
 use crate::words::{self, Counted, Link, Words};
 use std::collections::BTreeMap;
 
@@ -125,6 +126,12 @@ pub struct ReceiveAnswer {
     pub left: bool,
     /// Whether it was an echo that made its neighbour row.
     pub row_made: bool,
+    /// How far its number was above the current one, where it was counted for a held record.
+    pub above: Option<u16>,
+    /// Whether it made a record by a number that was stale to the one that a sweep removed.
+    pub taken_up: bool,
+    /// What else held of a message with a stale number, which has verdict 24 or 27.
+    pub stale: Option<Stale>,
 }
 
 pub type Judged = Result<ReceiveAnswer, Refusal>;
@@ -178,6 +185,9 @@ pub struct Book {
     pub echoes: BTreeMap<Link, u64>,
     /// For each originator, the counted messages; a list is never left empty here.
     pub lists: BTreeMap<u32, Vec<Counted>>,
+    /// For each originator whose record a sweep removed, the current number that it then had.
+    /// No answer depends on it: it is there for the counts and for the generator.
+    pub removed: BTreeMap<u32, u16>,
 }
 
 impl Book {
@@ -192,6 +202,7 @@ impl Book {
             last: [None; INTERFACES_MOST],
             echoes: BTreeMap::new(),
             lists: BTreeMap::new(),
+            removed: BTreeMap::new(),
         })
     }
 
@@ -214,6 +225,11 @@ impl Book {
     /// The counted messages of an originator; none where no record is held.
     pub fn list_of(&self, originator: u32) -> &[Counted] {
         self.lists.get(&originator).map_or(&[], |list| list)
+    }
+
+    /// The current number of an originator; none where no record is held.
+    pub fn current_of(&self, originator: u32) -> Option<u16> {
+        words::current(self.list_of(originator), self.settings.window)
     }
 
     /// The HNA entries that an originator's record keeps; none where no record is held.
@@ -327,10 +343,15 @@ impl Book {
     pub fn sweep(&mut self, time: u64) -> Result<u64, Refusal> {
         self.refuse_time(time)?;
         self.time = time;
+        let Settings { purge, window, .. } = self.settings;
+        let expired = |list: &[Counted]| time - list[list.len() - 1].time > purge;
+        for (originator, list) in self.lists.iter().filter(|(_, list)| expired(list)) {
+            if let Some(current) = words::current(list, window) {
+                self.removed.insert(*originator, current);
+            }
+        }
         let before = self.lists.len();
-        let purge = self.settings.purge;
-        self.lists
-            .retain(|_, list| time - list[list.len() - 1].time <= purge);
+        self.lists.retain(|_, list| !expired(list));
         Ok((before - self.lists.len()) as u64)
     }
 
@@ -355,8 +376,7 @@ impl Book {
         }
     }
 
-    /// The five steps of receiving: the verdict with what is passed on, or refusal 9, 10, 11
-    /// or 15.
+    /// The steps of receiving: the verdict with what is passed on, or refusal 9, 10, 11 or 15.
     fn judge(&mut self, call: &Receive) -> Judged {
         let header = packet::read(&call.packet);
         let link = Link {
@@ -372,10 +392,16 @@ impl Book {
         if self.settings.is_own(header.originator) {
             return self.echo(&header, link);
         }
-        if header.flags & UNIDIRECTIONAL != 0 {
-            return self.ended(24, &header);
-        }
-        self.count_and_pass_on(call, &header, link)
+        let verdict = if header.flags & UNIDIRECTIONAL != 0 {
+            24
+        } else if self.is_stale(&header) {
+            27
+        } else {
+            return self.count_and_pass_on(call, &header, link);
+        };
+        let stale = self.stale(call, &header, link);
+        self.ended(verdict, &header)
+            .map(|answer| ReceiveAnswer { stale, ..answer })
     }
 
     /// A verdict before the two questions: the best link comes with it, and nothing else.
@@ -405,13 +431,15 @@ impl Book {
             .map(|answer| ReceiveAnswer { row_made, ..answer })
     }
 
-    /// Step 5: the two questions, counted and passed on.
+    /// The last step: the two questions, counted and passed on.
     fn count_and_pass_on(&mut self, call: &Receive, header: &Header, link: Link) -> Judged {
         let list = self.list_of(header.originator);
         let bidirectional = self.has_row(link);
         let duplicate = words::duplicate(list, self.settings.window, link, header.number);
         let repeats_ttl = list.last().is_some_and(|last| last.ttl == header.ttl);
         let counted = bidirectional && !duplicate;
+        let above = self.above_current(header).filter(|_| counted);
+        let taken_up = counted && self.stale_to_removed(header);
         let words = if counted {
             Some(self.count(call, header, link)?)
         } else {
@@ -423,6 +451,8 @@ impl Book {
             counted,
             tied: counted && words.as_ref().is_some_and(|words| words.tied(link)),
             left: counted && packet::entries_in(&call.packet) > ENTRIES_MOST,
+            above,
+            taken_up,
             ..ReceiveAnswer::default()
         };
         let best = words.is_some_and(|words| words.best == link);

@@ -1,11 +1,12 @@
 //! How often a play met what it does not print, so that a comparison can say what its scripts
 //! reached.
 
-use crate::book::{Judged, ReceiveAnswer, Refusal, NEWEST_WINS};
+use crate::book::{Judged, ReceiveAnswer, Refusal, Settings, NEWEST_WINS};
 use crate::burst::{written, Burst, Faults};
 use crate::lookup::{located, Covering};
 use crate::packet::{self, Entry};
-use crate::words::Link;
+use crate::stale::Stale;
+use crate::words::{Link, NEW_MOST};
 use std::collections::BTreeMap;
 
 /// A counted message left its link tied with the highest other one, by the tie setting.
@@ -39,6 +40,24 @@ pub const BITS_MASK_0: &str = "bits-mask-0";
 /// A packet was not refused that has an entry whose lowest network bit is set, or of mask 0.
 pub const CLEAN_LOWEST: &str = "clean-lowest";
 pub const CLEAN_MASK_0: &str = "clean-mask-0";
+/// A message was counted whose number is the farthest new one.
+pub const NEW_FARTHEST: &str = "new-farthest";
+/// Verdict 27 was given for the first number below the window, for one as far below the current
+/// number as the farthest new one is above it, or for the one half way, a step farther.
+pub const STALE_FIRST: &str = "stale-first";
+pub const STALE_OPPOSITE: &str = "stale-opposite";
+pub const STALE_HALF: &str = "stale-half";
+/// Verdict 27 was given where the sender is the originator, or where the link has no row.
+pub const STALE_DIRECT: &str = "stale-direct";
+pub const STALE_NO_ROW: &str = "stale-no-row";
+/// Verdict 27 was given to a message by a link with a row that would be the ninth, or with more
+/// entries than a record keeps.
+pub const STALE_NINTH: &str = "stale-ninth";
+pub const STALE_MANY: &str = "stale-many";
+/// Verdict 24 was given where the number is stale, too.
+pub const STALE_24: &str = "stale-24";
+/// A record was made by a number that was stale to the one that a sweep removed.
+pub const TAKEN_UP: &str = "taken-up";
 
 /// Refusals that hide a later one, and the word for each two.
 const HIDING: [(u64, u64, &str); 7] = [
@@ -52,7 +71,7 @@ const HIDING: [(u64, u64, &str); 7] = [
 ];
 
 /// Every other word that is counted.
-const WORDS: [&str; 19] = [
+const WORDS: [&str; 29] = [
     NEWEST,
     STAYS,
     LISTS,
@@ -72,6 +91,16 @@ const WORDS: [&str; 19] = [
     BITS_MASK_0,
     CLEAN_LOWEST,
     CLEAN_MASK_0,
+    NEW_FARTHEST,
+    STALE_FIRST,
+    STALE_OPPOSITE,
+    STALE_HALF,
+    STALE_DIRECT,
+    STALE_NO_ROW,
+    STALE_NINTH,
+    STALE_MANY,
+    STALE_24,
+    TAKEN_UP,
 ];
 
 pub fn every_word() -> impl Iterator<Item = &'static str> {
@@ -97,7 +126,9 @@ impl Counts {
     }
 
     fn add(&mut self, word: &'static str, met: bool) {
-        *self.met.entry(word).or_default() += u64::from(met);
+        if met {
+            *self.met.entry(word).or_default() += 1;
+        }
     }
 
     /// The HNA octets of a packet that came, was sent or checked, and what it was refused by.
@@ -140,11 +171,32 @@ impl Counts {
         self.add(BITS_MASK_0, entry.mask == 0);
     }
 
-    /// A received packet that was not refused, under this tie setting.
-    pub fn answered(&mut self, answer: &ReceiveAnswer, tie: u64) {
-        let word = if tie == NEWEST_WINS { NEWEST } else { STAYS };
+    /// A received packet that was not refused, under these settings.
+    pub fn answered(&mut self, answer: &ReceiveAnswer, settings: &Settings) {
+        let word = match settings.tie {
+            NEWEST_WINS => NEWEST,
+            _ => STAYS,
+        };
         self.add(word, answer.tied);
         self.add(LEFT, answer.left);
+        self.add(NEW_FARTHEST, answer.above == Some(NEW_MOST));
+        self.add(TAKEN_UP, answer.taken_up);
+        match (answer.verdict, &answer.stale) {
+            (24, stale) => self.add(STALE_24, stale.is_some()),
+            (_, Some(stale)) => self.stale(stale, settings.window),
+            _ => {}
+        }
+    }
+
+    /// A message with verdict 27.
+    fn stale(&mut self, stale: &Stale, window: u64) {
+        self.add(STALE_FIRST, u64::from(stale.below) == window);
+        self.add(STALE_OPPOSITE, stale.below == NEW_MOST);
+        self.add(STALE_HALF, stale.below == NEW_MOST + 1);
+        self.add(STALE_DIRECT, stale.direct);
+        self.add(STALE_NO_ROW, !stale.row);
+        self.add(STALE_NINTH, stale.row && stale.ninth);
+        self.add(STALE_MANY, stale.row && stale.many);
     }
 
     /// A lookup that was not refused, by the entries that cover the address.

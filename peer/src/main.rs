@@ -15,6 +15,7 @@ mod outside;
 mod packet;
 mod play;
 mod script;
+mod stale;
 #[cfg(test)]
 mod tests;
 mod words;

@@ -29,7 +29,7 @@ pub struct Player {
     buffer: Vec<u64>,
     state: Lent,
     /// The book has changed since the buffer was written.
-    stale: bool,
+    unwritten: bool,
 }
 
 /// A table without a history was met; a book can't go on from it.
@@ -44,17 +44,17 @@ impl Player {
             counts: Counts::default(),
             buffer: vec![0; BUFFER_CELLS],
             state: Lent::Unknown,
-            stale: false,
+            unwritten: false,
         }
     }
 
     /// Writes the book into the buffer if that is still to be done.
     fn settle(&mut self) {
-        if let (true, Some(book)) = (self.stale, &self.book) {
+        if let (true, Some(book)) = (self.unwritten, &self.book) {
             let needed = cells::cells_needed(book.settings.capacity) as usize;
             cells::encode(book, &mut self.buffer[..needed]);
         }
-        self.stale = false;
+        self.unwritten = false;
     }
 
     /// The cells lent, as they stand.
@@ -157,7 +157,7 @@ impl Player {
 
     /// The book has changed, and the cells lent with it.
     fn changed(&mut self) {
-        self.stale = true;
+        self.unwritten = true;
         self.state = Lent::Book;
     }
 
@@ -175,7 +175,7 @@ impl Player {
         self.counts
             .packet(packet::hna(octets), judged.as_ref().err());
         if let (Ok(answer), Some(book)) = (judged, &self.book) {
-            self.counts.answered(answer, book.settings.tie);
+            self.counts.answered(answer, &book.settings);
             self.changed();
         }
     }

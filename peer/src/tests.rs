@@ -10,10 +10,11 @@ use crate::generate::generate;
 use crate::packet;
 use crate::play::{self, Ending, Lent, Player};
 use crate::script::{self, Line, BUFFER_CELLS, LINE_MOST};
-use crate::words::{self, Counted, Link};
+use crate::words::{self, Age, Counted, Link};
 use std::io;
 
 mod entries;
+mod stale;
 
 const A: Link = by(10);
 const B: Link = by(11);
@@ -128,17 +129,19 @@ fn feed(lines: &mut Vec<String>, messages: &[(Link, u16)]) {
     }
 }
 
+/// The ages of numbers beside a current one, with W = 8.
+fn ages<const MANY: usize>(current: u16, numbers: [u16; MANY]) -> [Age; MANY] {
+    numbers.map(|number| words::age(current, number, 8))
+}
+
 #[test]
 fn p1_inside_and_outside() {
-    assert!(words::inside(10, 3, 8));
-    assert!(!words::inside(10, 2, 8));
-    assert!(!words::inside(10, 11, 8));
+    assert_eq!(ages(10, [3, 2, 11]), [Age::Inside, Age::Stale, Age::New]);
 }
 
 #[test]
 fn p2_window_over_the_wrap() {
-    assert!(words::inside(5, 65534, 8));
-    assert!(!words::inside(5, 65533, 8));
+    assert_eq!(ages(5, [65534, 65533]), [Age::Inside, Age::Stale]);
 }
 
 #[test]
@@ -155,10 +158,13 @@ fn p4_moves_by_seven_and_eight() {
 }
 
 #[test]
-fn p5_a_late_number_is_new() {
-    let after = list(&[(A, 10), (A, 2)]);
-    assert_eq!(words::current(&after, 8), Some(2));
-    assert_eq!(marked(&after, 8, A), [2]);
+fn p5_a_late_number_is_stale() {
+    let mut lines = with_rows();
+    feed(&mut lines, &[(A, 10)]);
+    let before = cells_after(&lines);
+    feed(&mut lines, &[(A, 2)]);
+    assert_eq!(last(&lines), "receive 27 0 0 10 0 1 8 -");
+    assert_eq!(cells_after(&lines), before);
 }
 
 #[test]
@@ -385,7 +391,9 @@ fn duplicates_are_passed_on_by_the_last_ttl() {
 
 #[test]
 fn a_forgotten_number_counts_again() {
-    let back = list(&[(A, 10), (A, 20), (B, 10)]);
+    // Three moves lead all the way round, each to a new number.
+    let back = list(&[(A, 10), (A, 20), (A, 32787), (B, 10)]);
+    assert_eq!(words::current(&back, 8), Some(10));
     assert!(!words::duplicate(&back, 8, A, 10));
     assert_eq!(marked(&back, 8, A), []);
 }
@@ -594,7 +602,8 @@ fn a_burst_prints_its_copies_and_a_line_for_each_packet() {
 
 #[test]
 fn a_burst_is_its_packets_as_single_calls() {
-    // 13 has no row before its echo; then a message, twice, others by A, and 13 once more.
+    // 13 has no row before its echo; then a message, twice, others by A, stale ones among them,
+    // and 13 once more.
     let packets = [
         (13, octets(0, 50, 299, FAR)),
         (13, octets(64, 49, 7, 1)),
@@ -603,8 +612,9 @@ fn a_burst_is_its_packets_as_single_calls() {
         by_a(300),
         by_a(301),
         by_a(200),
-        (13, octets(0, 1, 201, FAR)),
-        (FAR, octets(0, 50, 202, FAR)),
+        (13, octets(0, 1, 400, FAR)),
+        (FAR, octets(0, 50, 301, FAR)),
+        (FAR, octets(0, 50, 401, FAR)),
     ];
     let mut bursts = with_rows();
     bursts.push(burst(5, 1000, &packets));

@@ -69,23 +69,39 @@ fn standing(counts: &[(Link, u64)], link: Link) -> Ordering {
     count_in(counts, link).cmp(&highest_other_in(counts, link))
 }
 
-/// Whether a number lies inside the window of a current number.
-pub fn inside(current: u16, number: u16, window: u64) -> bool {
-    let width = if cfg!(wrong = "window") {
-        window + 1
+/// How far above the current number the farthest new one is.
+pub const NEW_MOST: u16 = 32_767;
+
+/// What a number is beside a current number and its window.
+#[derive(Clone, Copy, Debug, PartialEq, Eq)]
+pub enum Age {
+    New,
+    Inside,
+    Stale,
+}
+
+/// The age of a number. Whether the window moves, what stays marked, duplicates and verdict 27
+/// are all read from it, so that they agree.
+pub fn age(current: u16, number: u16, window: u64) -> Age {
+    // The wrong copy "half" takes the number exactly half way for new.
+    let farthest = NEW_MOST + u16::from(cfg!(wrong = "half"));
+    let width = window + u64::from(cfg!(wrong = "window"));
+    if (1..=farthest).contains(&number.wrapping_sub(current)) {
+        Age::New
+    } else if u64::from(current.wrapping_sub(number)) < width {
+        Age::Inside
     } else {
-        window
-    };
-    u64::from(current.wrapping_sub(number)) < width
+        Age::Stale
+    }
 }
 
 /// The places in the list of the numbers that were first or new: each became current.
 fn moves(list: &[Counted], window: u64) -> Vec<usize> {
-    let mut places: Vec<usize> = Vec::new();
+    let mut places: Vec<usize> = Vec::with_capacity(list.len());
     for (place, message) in list.iter().enumerate() {
         let moved = match places.last() {
             None => true,
-            Some(last) => !inside(list[*last].number, message.number, window),
+            Some(last) => age(list[*last].number, message.number, window) == Age::New,
         };
         if moved {
             places.push(place);
@@ -121,7 +137,7 @@ fn survives(list: &[Counted], moves: &[usize], window: u64, place: usize) -> boo
         .iter()
         .rev()
         .take_while(|later| **later > place)
-        .all(|later| inside(list[*later].number, list[place].number, window))
+        .all(|later| age(list[*later].number, list[place].number, window) == Age::Inside)
 }
 
 /// The marks after the whole list: link and number, rising, each once.

@@ -9,6 +9,7 @@ use table_originators::record_at;
 use table_record::route_of;
 use wire::refusals::NOT_WELL_FORMED;
 ghost use mathlib.Core.Path.{_≡_};
+ghost use mathlib.Core.Option.{some};
 ghost use Rattle.lists.specs.Keyed.{lookup};
 ghost use Rattle.rules.specs.Calls.{question, asked, answered, noRoute};
 ghost use Rattle.rules.specs.Rules.{routeOf};
@@ -16,6 +17,7 @@ ghost use Rattle.rules.specs.Table.{table};
 ghost use Rattle.table_layout.specs.Calls.{Performed};
 ghost use Rattle.table_layout.specs.Cells.{decode};
 ghost use Rattle.table_layout.specs.Facts.{Knows};
+ghost use Rattle.table_originators.specs.Originators.{Holds, standingAt};
 ghost use Rattle.call_best.specs.Best.{askedAs};
 
 // No route: all zeros.
@@ -30,6 +32,14 @@ pub fn no_route() -> Route
     }
 }
 
+// The route of the record at place i.
+pub fn route_at(cells: &[u64], i: usize) -> Route
+    requires { ⌜ Holds (now cells) i ⌝ }
+    ensures { λ r. ⌜ r ≡ routeOf table (decode (now (cells .entry)) .config) (some (standingAt (now (cells .entry)) i)) ⌝ }
+{
+    route_of(record_at(cells, i), cells[WINDOW] as u32)
+}
+
 // The route to an originator, in a table that is well-formed.
 pub fn route_to(cells: &[u64], originator: u32) -> Route
     requires { ⌜ Knows (now cells) ⌝ }
@@ -37,7 +47,7 @@ pub fn route_to(cells: &[u64], originator: u32) -> Route
 {
     let f = find_record(cells, originator).found;
     match f {
-        Found::At(i) => route_of(record_at(cells, i), cells[WINDOW] as u32),
+        Found::At(i) => route_at(cells, i),
         Found::Place(_) => no_route(),
     }
 }

@@ -9,7 +9,7 @@ use lib.Dec.{eqb}
 use lib.ListN.{length}
 use native.Mathlib.Omega.{arith}
 use borrow.Author.Tests.{lt-ltb, le-ltb, le-leb, lt-leb}
-use Rattle.lists.specs.Keyed.{hasKey, put}
+use Rattle.lists.specs.Keyed.{lookup, hasKey, put}
 use Rattle.lists.proofs.Keyed.{length-mapValues}
 use Rattle.lists.proofs.Lists.{keep-length}
 use Rattle.window.specs.Window.{distance, mark, count, hasMark}
@@ -20,10 +20,10 @@ use Rattle.wire.specs.Check.{numbered, firstOf}
 use Rattle.rules.specs.Settings.{Config, neighbourMost, linkMost, entryMost, isOwn, isBroadcast}
 use Rattle.rules.specs.Calls.{ReceiveArgs, receive}
 use Rattle.rules.specs.Messages.{Message}
-use Rattle.rules.specs.Rules.{sequenceOf, OutcomeOf, branch, unless, receiveFault, linkBy, message, isEcho, isDuplicate, isFresh, isPassedOn, routeOf, withTime, withRows, refuse, verdict, conclude, countedFaults, storeCounted, counted, uncounted, decide, takeEcho, judge, step}
+use Rattle.rules.specs.Rules.{sequenceOf, OutcomeOf, branch, unless, receiveFault, linkBy, message, isEcho, isStale, isDuplicate, isFresh, isPassedOn, routeOf, withTime, withRows, refuse, verdict, conclude, countedFaults, storeCounted, counted, uncounted, decide, takeEcho, judge, step}
 use Rattle.rules.specs.Table.{TableRecord, TableState, settle, withLinks, begun, firstRecord, nextRecord, recordEcho, table}
 use Rattle.table_changes.specs.Changes.{withRecords}
-use Rattle.call_receive_arrival.specs.Receiving.{ownMessage, foreign}
+use Rattle.call_receive_arrival.specs.Receiving.{ownMessage, timely, foreign}
 
 -- the table with the originator's record x
 abbrev pub holding : TableState → Header → TableRecord → TableState
@@ -100,6 +100,15 @@ module _ (s : TableState) (a : ReceiveArgs) where
     way-22 (inr l) = rw (lt-leb neighbourMost (length (s .rows)) l, and-false (not (hasKey (linkBy a) (s .rows))))
 
     -- ---- a message of another node
+
+    -- stale to its originator's record, or not
+    pub way-27 : isStale table (s .config) a h (lookup (h .originator) (s .records)) ≡ true → foreign s a h ≡ verdict table a h 27 (withTime table s (a .time))
+    unfolding branch
+    way-27 e = rw e
+
+    pub way-timely : isStale table (s .config) a h (lookup (h .originator) (s .records)) ≡ false → foreign s a h ≡ timely s a h
+    unfolding branch
+    way-timely e = rw e
 
     abbrev isCounted : (bidirectional : Bool) → Option TableRecord → Bool
     isCounted b x = b && not (isDuplicate table (s .config) a h x)

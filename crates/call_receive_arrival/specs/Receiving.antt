@@ -16,7 +16,7 @@ use Rattle.rules.specs.declared.Interface.{Interface}
 use Rattle.rules.specs.Settings.{ttlLeast, isAddress}
 use Rattle.rules.specs.Calls.{neighbourOf, received, receive, ReceiveArgs, receivedAs, answeredWriting, noRoute}
 use Rattle.rules.specs.Messages.{ogmOf}
-use Rattle.rules.specs.Rules.{OutcomeOf, branch, lastSent, isEcho, takeEcho, verdict, linkBy, message, withTime, routeOf, conclude, decide, step}
+use Rattle.rules.specs.Rules.{OutcomeOf, branch, lastSent, isEcho, takeEcho, verdict, linkBy, message, isStale, withTime, routeOf, conclude, decide, step}
 use Rattle.rules.specs.Table.{TableState, table}
 use Rattle.rules.specs.WellFormed.{wellFormed}
 use Rattle.table_layout.specs.Layout.{usedAt, timeAt}
@@ -68,6 +68,11 @@ pub record Concluded (c p o : List ℕ) (m : Arrival) (bidirectional best : Bool
   pub replies : answeredWriting (received r) q ≡ conclude (callOf p o m) (header p) bidirectional (leb ttlLeast (m .ogm .ttl) && (eqb (m .sender) (m .originator) || best)) route
   pub cells : d ≡ set c timeAt (m .ogm .time)
 
+-- 27, with a route; the time is set
+pub record EndsStale (c : List ℕ) (time : ℕ) (route : Route) (d : List ℕ) (r : Received) : Type 0 where
+  pub replies : r ≡ receivedAs 27 0 0 route
+  pub cells : d ≡ set c timeAt time
+
 -- ---- what is asked
 
 -- the cells are a table's that is well-formed once the call sets its time
@@ -115,9 +120,13 @@ Echoes c m = m .ogm .sequence ≡ lastSent (decode c .config) (decode c .sends) 
 abbrev pub ownMessage : Rule
 ownMessage s a h = branch (isEcho (s .config) (s .sends) a h) (takeEcho table s a h) (verdict table a h 23 (withTime table s (a .time)))
 
--- one that is neither from nor of this node
+-- one that is neither from nor of this node, and not stale
+abbrev pub timely : Rule
+timely s a h = decide table s a h (hasKey (linkBy a) (s .rows)) (lookup (h .originator) (s .records))
+
+-- stale or not
 abbrev pub foreign : Rule
-foreign s a h = decide table s a h (hasKey (linkBy a) (s .rows)) (lookup (h .originator) (s .records))
+foreign s a h = branch (isStale table (s .config) a h (lookup (h .originator) (s .records))) (verdict table a h 27 (withTime table s (a .time))) (timely s a h)
 
 -- the field f of an interface stands at a place of its row
 abbrev pub IsFieldAt : (f : Interface → ℕ) (place : ℕ) → Type 0
@@ -125,8 +134,8 @@ IsFieldAt f k = (x : InterfaceRow) → getD (encodeInterface x) k 0 ≡ f (x .0)
 
 -- ---- what is asked where the originator's record was looked for
 
--- the packet is neither from nor of this node, and its link has a neighbour row or not
+-- the packet is neither from nor of this node, and not stale, and its link has a neighbour row or not
 pub record Decides (c p o : List ℕ) (m : Arrival) (bidirectional : Bool) : Type 0 where
   pub taken : Taken c p o m
   pub link : bidirectional ≡ hasKey (m .ogm .link) (decode c .rows)
-  pub ruled : Ruled c p o m foreign
+  pub ruled : Ruled c p o m timely

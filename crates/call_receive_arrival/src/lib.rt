@@ -10,6 +10,7 @@ use rules::Route;
 use rules::limits::TTL_LEAST;
 use rules::verdicts::KEPT;
 use rules::verdicts::PASSED_ON;
+use rules::verdicts::STALE;
 use table_layout::TIME;
 use wire::Fault;
 ghost use mathlib.Core.Path.{_≡_};
@@ -20,7 +21,7 @@ ghost use Rattle.rules.specs.Rules as R;
 ghost use Rattle.rules.specs.Table.{table};
 ghost use Rattle.table_layout.specs.Layout.{timeAt};
 ghost use Rattle.table_layout.specs.Cells.{encode};
-ghost use Rattle.call_receive_arrival.specs.Receiving.{refusedBy, verdictOf, Ends, Fits, Concluded};
+ghost use Rattle.call_receive_arrival.specs.Receiving.{refusedBy, verdictOf, Ends, Fits, EndsStale, Concluded};
 
 // A received message: who sent it, by which interface it came, what its packet says, and what a record is told of it.
 pub struct Arrival {
@@ -57,6 +58,15 @@ pub fn verdict(cells: &mut [u64], number: u64, time: u64, originator: u32) -> Re
 {
     cells[TIME] = time;
     received_as(number, 0, 0, route_to(cells, originator))
+}
+
+// Ends with 27: the time is set. The originator's record stays as it is, and with it the route.
+pub fn end_stale(cells: &mut [u64], at: u64, route: Route) -> Received
+    requires { ⌜ timeAt < length (now cells) ⌝ }
+    ensures { λ r. ⌜ EndsStale (now (cells .entry)) at route (now (cells .exit)) r ⌝ }
+{
+    cells[TIME] = at;
+    received_as(STALE, 0, 0, route)
 }
 
 // Ends with 26 or 25: the time is set. `best` says that the link is bidirectional and best, and the message fresh.

@@ -3,12 +3,16 @@ use mathlib.Core.Path.{_≡_, refl, sym, ap, ap₂, _∙_, subst}
 use mathlib.Core.Bool.{Bool, true, false, cond, _&&_, not, false≢true}
 use mathlib.Core.Option.{Option, none, some}
 use mathlib.Core.List.{List}
-use Prim.Native.Nat.{ℕ, _≤_, _<_}
+use Prim.Native.Nat.{ℕ, _%_, _≤_, _<_}
+use native.Mathlib.Nat.{mod-eq-of-lt}
 use native.Mathlib.Omega.{arith}
-use lib.ListN.{getD}
+use lib.ListN.{set, getD}
 use Rattle.lists.specs.Lists.{maybe}
 use Rattle.lists.specs.Keyed.{lookup, hasKey, put}
 use Rattle.lists.proofs.Tests.{and-left, and-right}
+use Rattle.window.specs.declared.Position.{Position}
+use Rattle.window.specs.Window.{numbers, stale}
+use Rattle.window.specs.Window as N
 use Rattle.wire.specs.declared.Fault.{Fault}
 use Rattle.wire.specs.Packet.{header, hna}
 use Rattle.wire.specs.Check.{numbered, entries}
@@ -17,22 +21,58 @@ use Rattle.rules.specs.Messages.{Message, messageOf}
 use Rattle.rules.specs.declared.Received.{Received}
 use Rattle.rules.specs.declared.Route.{Route}
 use Rattle.rules.specs.Settings.{entryMost}
-use Rattle.rules.specs.Calls.{ReceiveArgs, receive, noRoute}
-use Rattle.rules.specs.Rules.{message, isBestBy, isDuplicate, isFresh, routeOf, refuse, decide}
-use Rattle.rules.specs.Table.{TableRecord, TableState, firstRecord, nextRecord, table}
-use Rattle.table_layout.specs.Layout.{capacityAt, recordsAt}
+use Rattle.rules.specs.Calls.{ReceiveArgs, receive, receivedAs, noRoute}
+use Rattle.rules.specs.Rules.{message, isStale, isBestBy, isDuplicate, isFresh, withTime, routeOf, refuse, decide}
+use Rattle.rules.specs.Table.{TableRecord, TableState, firstRecord, nextRecord, isStaleIn, table}
+use Rattle.table_layout.specs.Layout.{timeAt, capacityAt, recordsAt}
 use Rattle.table_layout.specs.Cells.{encode, decode}
 use Rattle.count_in_record.specs.declared.Answer.{Answer}
 use Rattle.count_in_record.specs.declared.Heard.{Heard}
 use Rattle.count_in_record.specs.declared.Heard.the-variants as H
 use Rattle.count_in_record.specs.Counting.{countedFault, isRepeated, isFreshIn, isCounted, isTaken, Answers}
 use Rattle.table_changes.specs.Changes.{withRecords}
-use Rattle.table_originators.specs.Originators.{Stands, Missing, standingAt, HeardAt, Made}
+use Rattle.table_changes.proofs.Parts.{time-set}
+use Rattle.table_originators.specs.Originators.{Stands, Missing, standingAt, LiesAt, HeardAt, Made}
 use Rattle.table_originators.proofs.Changed.{records-count}
 use Rattle.call_receive_arrival.specs.declared.Arrival.{Arrival}
-use Rattle.call_receive_arrival.specs.Receiving.{callOf, after, Leaves, Concluded, Fits, Decides}
-use Rattle.call_receive_arrival.proofs.Ways.{holding, concludes, way-kept, way-full, way-next, way-10, way-15, way-first}
-use Rattle.call_receive_arrival.proofs.Endings.{message-is, link-is, originator-is, concludes-left}
+use Rattle.call_receive_arrival.specs.Receiving.{callOf, after, Leaves, EndsStale, Concluded, Fits, Taken, Ruled, timely, foreign, Decides}
+use Rattle.call_receive_arrival.proofs.Ways.{holding, concludes, way-27, way-timely, way-kept, way-full, way-next, way-10, way-15, way-first}
+use Rattle.call_receive_arrival.proofs.Endings.{message-is, link-is, originator-is, sequence-is, leaves-by, verdict-leaves, concludes-left}
+
+-- ---- stale, or not
+
+module _ {c p o : List ℕ} {m : Arrival} (t : Taken c p o m) (ruled : Ruled c p o m foreign) where
+  -- what is held of the originator, by the packet's header
+  held-is : {x : Option TableRecord} → lookup (m .originator) (decode c .records) ≡ x → lookup (header p .originator) (decode c .records) ≡ x
+  held-is e = ap (λ (k : ℕ). lookup k (decode c .records)) (sym (originator-is (t .fits))) ∙ e
+
+  -- without a record nothing is stale
+  pub missing-timely : {i : ℕ} → Missing c (m .originator) i → Ruled c p o m timely
+  missing-timely at = ruled ∙ way-timely (decode c) (callOf p o m) (header p) (ap (isStale table (decode c .config) (callOf p o m) (header p)) (held-is (at .none)))
+
+  -- to the record at place i the number lies so
+  module _ {i : ℕ} (at : Stands c (m .originator) i) (small : m .ogm .sequence < numbers) {q : Position} (lies : LiesAt c i (m .ogm .sequence) q) where
+    same-number : header p .sequence % numbers ≡ m .ogm .sequence
+    same-number = ap (λ (n : ℕ). n % numbers) (sym (sequence-is (t .fits))) ∙ mod-eq-of-lt small
+
+    stale-is : isStale table (decode c .config) (callOf p o m) (header p) (lookup (header p .originator) (decode c .records)) ≡ N.isStale q
+    unfolding isStaleIn stale
+    stale-is =
+        ap (isStale table (decode c .config) (callOf p o m) (header p)) (held-is (at .found))
+        ∙ ap (λ (n : ℕ). stale (decode c .config .settings .window) (standingAt c i .current) n) same-number ∙ ap N.isStale (sym lies)
+
+    pub standing-timely : N.isStale q ≡ false → Ruled c p o m timely
+    standing-timely e = ruled ∙ way-timely (decode c) (callOf p o m) (header p) (stale-is ∙ e)
+
+    -- the record stays, and the route with it
+    pub standing-stale : N.isStale q ≡ true → {route : Route} → route ≡ routeOf table (decode c .config) (some (standingAt c i)) → {e : List ℕ} {r : Received} → EndsStale c (m .ogm .time) route e r
+        → Leaves e o r (after c p o m)
+    standing-stale e er k =
+        let s = decode c in
+        leaves-by (ruled ∙ way-27 s (callOf p o m) (header p) (stale-is ∙ e))
+        (verdict-leaves (withTime table s (m .ogm .time)) (callOf p o m) (header p) 27 (m .originator) _ (originator-is (t .fits))
+        (k .replies ∙ ap (receivedAs 27 0 0) (er ∙ ap (routeOf table (s .config)) (sym (at .found))))
+        (k .cells ∙ ap (λ (l : List ℕ). set l timeAt (m .ogm .time)) (sym (t .knows .cells)) ∙ time-set s (m .ogm .time)))
 
 not-refused : (x : Option Fault) → maybe x true (λ v. false) ≡ true → x ≡ none
 not-refused none h = refl

@@ -1,13 +1,13 @@
 -- A record's row: what counting writes is the encoding of what the rules count. Assumes nothing.
 use mathlib.Core.Path.{_≡_, refl, sym, ap, _∙_, subst}
 use mathlib.Core.List.{List, [], _∷_, _++_, append-nil}
-use mathlib.Core.Bool.{Bool, true, false, cond, _&&_, _||_, not}
+use mathlib.Core.Bool.{Bool, true, false, cond, _&&_, _||_}
 use mathlib.Core.Option.{Option, none, some}
 use Prim.Native.Nat.{ℕ, _*_, _-_, _%_, _≤_, _<_}
 use native.Mathlib.Nat.{mod-eq-of-lt}
 use native.Mathlib.Omega.{arith}
 use lib.Dec.{ltb, eqb}
-use borrow.Author.Tests.{ltb-true, ltb-false, lt-ltb, le-ltb}
+use borrow.Author.Tests.{ltb-false, lt-ltb, le-ltb}
 use lib.ListN.{length, take, drop, set, getD, length-set, length-drop}
 use lib.Seq.{take-all, take-at, length-take-le, getD-set-same}
 use borrow.Rule.Slice.PartMut.{putMid}
@@ -18,7 +18,8 @@ use Rattle.lists.proofs.Keyed.{length-mapValues, lookup-put, lookup-kept}
 use Rattle.cells.specs.Area.{fit}
 use Rattle.cells.proofs.Areas.{length-fit, take-fit, length-rows}
 use Rattle.cells.proofs.Lent.{cells-from}
-use Rattle.window.specs.Window.{numbers, distance, inside, advance, bit, marked, shift, mark, count}
+use Rattle.window.specs.declared.Position.{Position}
+use Rattle.window.specs.Window.{numbers, distance, position, isNew, isInside, isStale, new, inside, stale, currentBy, advance, marked, shift, mark, count}
 use Rattle.window.specs.Marks.{wordOf}
 use Rattle.window.proofs.Numbers.{distance-self}
 use Rattle.wire.specs.declared.Fault.{Fault}
@@ -139,15 +140,10 @@ module _ (κ : Config) (row : List ℕ) (m : Message) {p : Policy} (f : Follows 
   links-held = λ i. mapValues (shift (f .window i) ((eu ∙ ap (λ (x : ℕ). distance x (getD row currentAt 0)) current-is) i)) (linksFrom (getD row linksAt 0) (el i))
 
   -- the entries: the message's where its number is new, else those that are kept
-  entries-are : {replaced : Bool} → replaced ≡ not (inside (p .window) (getD row currentAt 0) (m .sequence)) → after .entries ≡ cond replaced (m .entries) (entriesIn row)
+  entries-are : {replaced : Bool} → replaced ≡ new (p .window) (getD row currentAt 0) (m .sequence) → after .entries ≡ cond replaced (m .entries) (entriesIn row)
   unfolding nextRecord decodeRecord
   entries-are e =
-      (λ i. cond (inside (sym (f .window) i) (getD row currentAt 0) (sym (number-is m small) i)) (entriesIn row) (m .entries))
-      ∙ turn (inside (p .window) (getD row currentAt 0) (m .sequence)) ∙ ap (λ (t : Bool). cond t (m .entries) (entriesIn row)) (sym e)
-    where
-      turn : (t : Bool) → cond t (entriesIn row) (m .entries) ≡ cond (not t) (m .entries) (entriesIn row)
-      turn true = refl
-      turn false = refl
+      (λ i. cond (new (sym (f .window) i) (getD row currentAt 0) (sym (number-is m small) i)) (m .entries) (entriesIn row)) ∙ ap (λ (t : Bool). cond t (m .entries) (entriesIn row)) (sym e)
 
   module _ {out : List ℕ} {left : Left} (g : Recounted out left step (m .link) (getD row bestAt 0) ls) where
     best-is : left .best ≡ after .best
@@ -173,7 +169,7 @@ module _ (κ : Config) (row : List ℕ) (m : Message) {p : Policy} (f : Follows 
     pub counted-11 : linkMost < left .links → {r : Fault} → r ≡ numbered 11 → CountedIn κ m row row (Refused r)
     counted-11 h e = (fault-11 κ after (omega (arith, done-size links-are)) ∙ ap some (sym e), refl)
 
-    module _ (few : left .links ≤ linkMost) {replaced : Bool} (er : replaced ≡ not (inside (p .window) (getD row currentAt 0) (m .sequence))) where
+    module _ (few : left .links ≤ linkMost) {replaced : Bool} (er : replaced ≡ new (p .window) (getD row currentAt 0) (m .sequence)) where
       links-few : length (after .links) ≤ linkMost
       links-few = omega (arith, done-size links-are)
 
@@ -206,13 +202,28 @@ module _ (κ : Config) (row : List ℕ) (m : Message) {p : Policy} (f : Follows 
           marks-are,
         )
 
--- the number lies inside the window that it leaves
-pub next-near : (w c n : ℕ) {next k : ℕ} → 1 ≤ w → next ≡ advance w c n → k ≡ distance next n → k < w
-next-near w c n h en ek = subst (λ (x : ℕ). x < w) (sym (ek ∙ ap (λ (x : ℕ). distance x n) en)) (advance-inside w c n h)
+-- ---- what the code reads from where a number lies
 
-pub inside-near : (w c n : ℕ) {k : ℕ} → inside w c n ≡ true → k ≡ distance c n → k < w
-unfolding inside
-inside-near w c n h ek = subst (λ (x : ℕ). x < w) (sym ek) (ltb-true (distance c n) w h)
+module _ (w c n : ℕ) {q : Position} (e : q ≡ position w c n) where
+  pub advance-is : {next : ℕ} → next ≡ currentBy q c n → next ≡ advance w c n
+  unfolding advance
+  advance-is h = h ∙ ap (λ (x : Position). currentBy x c n) e
+
+  pub new-is : {t : Bool} → t ≡ isNew q → t ≡ new w c n
+  unfolding new
+  new-is h = h ∙ ap isNew e
+
+  pub inside-is : inside w c n ≡ isInside q
+  unfolding inside
+  inside-is = ap isInside (sym e)
+
+  pub stale-is : stale w c n ≡ isStale q
+  unfolding stale
+  stale-is = ap isStale (sym e)
+
+  -- a number that isn't stale lies inside the window that it leaves
+  pub next-near : isStale q ≡ false → {next k : ℕ} → 1 ≤ w → next ≡ advance w c n → k ≡ distance next n → k < w
+  next-near t h en ek = subst (λ (x : ℕ). x < w) (sym (ek ∙ ap (λ (x : ℕ). distance x n) en)) (advance-inside w c n h (stale-is ∙ t))
 
 -- ---- the first record
 
@@ -240,7 +251,7 @@ module _ (κ : Config) (m : Message) (small : m .sequence < numbers) where
       let l : fit (linkMost * linkCells) links ≡ linkArea linkMost ((m .link, mark 0 0) ∷ []) = ap (fit (linkMost * linkCells)) (done-cells b ∙ (λ i. fit (len i) (cellsOf ((m .link, ev i) ∷ [])))) in
       e ∙ (λ i. getD-set-same before addressAt address 0 h i ∷ m .sequence ∷ m .time ∷ m .ttl ∷ 1 ∷ m .link ∷ en i ∷ (l i ++ fit entryAreaCells (m .entries))) ∙ ap (λ (r : TableRecord). encodeRecord (address, r)) first-is
 
--- ---- a number that was counted before
+-- ---- a number that comes to a record
 
 -- the number n, on link l
 module _ (κ : Config) (row : List ℕ) (l n : ℕ) {p : Policy} (f : Follows κ p) (small : n < numbers) where
@@ -250,12 +261,10 @@ module _ (κ : Config) (row : List ℕ) (l n : ℕ) {p : Policy} (f : Follows κ
   abbrev same-number : n ≡ n % numbers
   same-number = sym (mod-eq-of-lt small)
 
-  pub marked-by : {t : Bool} → inside (p .window) current-then n ≡ t → (t && marked (marksAt (linksOf row) l) current-then n) ≡ isMarked κ (decodeRecord row .1) l (n % numbers)
-  unfolding isMarked decodeRecord
-  marked-by h =
-      ap (λ (s : Bool). s && marked (marksAt (linksOf row) l) current-then n) (sym h)
-      ∙ (λ i. inside (f .window i) current-then (same-number i) && marked (marksAt (linksOf row) l) current-then (same-number i))
-
-  pub marked-inside : {t : Bool} {v k : ℕ} → inside (p .window) current-then n ≡ true → v ≡ marksAt (linksOf row) l → k ≡ distance current-then n → t ≡ bit v k
-      → t ≡ isMarked κ (decodeRecord row .1) l (n % numbers)
-  marked-inside h ev ek et = et ∙ (λ i. bit (ev i) (ek i)) ∙ marked-by h
+  -- where it lies beside the window tells, with its link's marks, whether it is a duplicate
+  module _ {q : Position} (e : q ≡ position (p .window) current-then n) where
+    pub marked-by : {t : Bool} {v : ℕ} → v ≡ marksAt (linksOf row) l → t ≡ (isInside q && marked v current-then n) → t ≡ isMarked κ (decodeRecord row .1) l (n % numbers)
+    unfolding isMarked decodeRecord
+    marked-by ev et =
+        et ∙ (λ i. sym (inside-is (p .window) current-then n e) i && marked (ev i) current-then n)
+        ∙ (λ i. inside (f .window i) current-then (same-number i) && marked (marksAt (linksOf row) l) current-then (same-number i))

@@ -8,13 +8,17 @@ use lib.Dec.{eqb}
 use Rattle.lists.specs.Lists.{maybe}
 use Rattle.wire.specs.declared.Fault.{Fault}
 use Rattle.wire.specs.Check.{firstOf}
+use lib.ListN.{getD}
+use Rattle.window.specs.declared.Position.{Position}
+use Rattle.window.specs.Window.{position, isStale}
 use Rattle.window.specs.Marks.{wordOf}
 use Rattle.rules.specs.declared.Route.{Route}
+use Rattle.rules.specs.declared.Policy.{Policy}
 use Rattle.rules.specs.Settings.{Config}
 use Rattle.rules.specs.Messages.{Message}
 use Rattle.rules.specs.Rules.{sequenceOf, countedFaults, routeOf}
 use Rattle.rules.specs.Table.{TableRecord, table, marksAt, firstRecord, nextRecord, isMarked}
-use Rattle.table_record.specs.Record.{encodeRecord, decodeRecord}
+use Rattle.table_record.specs.Record.{currentAt, encodeRecord, decodeRecord}
 use Rattle.count_in_record.specs.declared.Counting.{Counting}
 use Rattle.count_in_record.specs.declared.Counting.the-variants.{Done, Refused}
 use Rattle.count_in_record.specs.declared.Answer.{Answer}
@@ -22,6 +26,11 @@ use Rattle.count_in_record.specs.declared.Heard.{Heard}
 use Rattle.count_in_record.specs.declared.Heard.the-variants as H
 
 -- ---- counting
+
+-- the number n lies so beside the window of a record's row, and is not stale
+pub record Timely (p : Policy) (row : List ℕ) (n : ℕ) (q : Position) : Type 0 where
+  pub lies : q ≡ position (p .window) (getD row currentAt 0) n
+  pub timely : isStale q ≡ false
 
 -- what is refused of a record after counting: 11 or 15, if anything
 abbrev pub countedFault : Config → TableRecord → Option Fault

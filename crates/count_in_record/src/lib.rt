@@ -26,10 +26,11 @@ use table_record::put_link;
 use table_record::route_by;
 use table_record::route_of;
 use window::Marks;
+use window::Position;
 use window::advance;
 use window::distance;
-use window::inside;
-use window::is_marked;
+use window::is_duplicate;
+use window::is_new;
 use window::mark;
 use window::no_marks;
 use wire::Fault;
@@ -39,20 +40,19 @@ use wire::refusals::LINKS_FULL;
 ghost use mathlib.Core.Path.{_≡_};
 ghost use mathlib.Core.Bool.{true, cond};
 ghost use mathlib.Core.List.{_∷_, _++_};
-ghost use Prim.Native.Nat.{_*_, _%_, _≤_};
+ghost use Prim.Native.Nat.{_*_, _≤_};
 ghost use lib.ListN.{length, getD};
 ghost use Rattle.cells.specs.Area.{fit};
 ghost use Rattle.wire.specs.Check.{entries};
 ghost use Rattle.wire.specs.Entries.{entriesOf};
-ghost use Rattle.window.specs.Window.{numbers};
 ghost use Rattle.window.specs.Marks.{wordOf};
 ghost use Rattle.rules.specs.Settings.{Config, Follows, Bounded, isAddress, linkMost, entryMost, linkCells, entryAreaCells, recordCells};
 ghost use Rattle.rules.specs.Calls.{neighbourOf};
 ghost use Rattle.rules.specs.Messages.{messageOf};
-ghost use Rattle.rules.specs.Table.{marksAt, isMarked};
+ghost use Rattle.rules.specs.Table.{marksAt};
 ghost use Rattle.table_record.specs.Record.{addressAt, entriesAt, entriesPart, linksOf, decodeRecord, Held};
 ghost use Rattle.count_links.specs.Links.{SpotOf};
-ghost use Rattle.count_in_record.specs.Counting.{CountedIn, FirstIn, Answered, HeardIn};
+ghost use Rattle.count_in_record.specs.Counting.{Timely, CountedIn, FirstIn, Answered, HeardIn};
 
 // Room for one link more: the ninth is there only until it is known whether another gives up its place.
 const SCRATCH: usize = LINKS_CELLS + LINK;
@@ -110,15 +110,22 @@ fn store_message(
     }
 }
 
-// Counts a message whose link stands at this spot. Nothing changes where it is refused: the links are written to a scratch first, and to the row
+// Counts a message whose link stands at this spot and whose number lies so beside the window. Nothing changes where it is refused: the links are written to a scratch first, and to the row
 // once it is known that they and the entries fit.
-fn count_message(row: &mut [u64], p: Policy, m: Ogm, hna: &[u8], spot: Spot) -> Counting
-    requires { ⌜ Held (now row) × Bounded p × SpotOf (linksOf (now row)) (m .link) spot ⌝ }
+fn count_message(
+    row: &mut [u64],
+    p: Policy,
+    m: Ogm,
+    hna: &[u8],
+    spot: Spot,
+    position: Position,
+) -> Counting
+    requires { ⌜ Held (now row) × Bounded p × SpotOf (linksOf (now row)) (m .link) spot × Timely p (now row) (m .sequence) position ⌝ }
     ensures { λ r. ⌜ ((κ : Config) → Follows κ p → CountedIn κ (messageOf m (now (hna .entry))) (now (row .entry)) (now (row .exit)) r) ⌝ }
 {
     let current = row[CURRENT] as u16;
     let n = row[LINKS] as usize;
-    let next = advance(p.window, current, m.sequence);
+    let next = advance(position, current, m.sequence);
     let up = distance(next, current);
     let below = distance(next, m.sequence);
     let step = Step {
@@ -131,7 +138,7 @@ fn count_message(row: &mut [u64], p: Policy, m: Ogm, hna: &[u8], spot: Spot) -> 
     if LINKS_MOST < left.links as u64 {
         return Counting::Refused(refusal(LINKS_FULL));
     }
-    let replaced = !inside(p.window, current, m.sequence);
+    let replaced = is_new(position);
     if replaced & too_many(hna) {
         return Counting::Refused(refusal(ENTRIES_FULL));
     }
@@ -157,18 +164,6 @@ pub fn first_record(row: &mut [u64], address: u64, p: Policy, m: Ogm, hna: &[u8]
     };
     store_message(row, m.sequence, m, hna, true, left, &links);
     route_by(m.link, marks, p.window as u32)
-}
-
-// Whether the message's number is inside the window and already marked on its link, which has these marks.
-fn is_duplicate(row: &[u64], p: Policy, m: Ogm, marks: Marks) -> bool
-    requires { ⌜ Held (now row) × Bounded p × (wordOf marks ≡ marksAt (linksOf (now row)) (m .link)) ⌝ }
-    ensures { λ r. ⌜ ((κ : Config) → Follows κ p → r ≡ isMarked κ (decodeRecord (now (row .entry)) .1) (m .link) (m .sequence % numbers)) ⌝ }
-{
-    let current = row[CURRENT] as u16;
-    if !inside(p.window, current, m.sequence) {
-        return false;
-    }
-    is_marked(marks, distance(current, m.sequence))
 }
 
 // The answer to a message, by the row as it is left.
@@ -198,20 +193,27 @@ fn answer_counted(row: &[u64], p: Policy, m: Ogm, marks: Marks) -> Answer
     }
 }
 
-// What a message does to its originator's record: a message that comes by a bidirectional link and is no duplicate is counted. Duplicate and last TTL
-// are judged before counting, best and route after it. What is counted is no duplicate, so its TTL is not asked for.
-pub fn hear(row: &mut [u64], p: Policy, m: Ogm, hna: &[u8], bidirectional: bool) -> Heard
-    requires { ⌜ Held (now row) × Bounded p × (isAddress (neighbourOf (m .link)) ≡ true) ⌝ }
+// What a message whose number isn't stale, and lies so beside the window, does to its originator's record: one that comes by a bidirectional link and is no
+// duplicate is counted. Duplicate and last TTL are judged before counting, best and route after it. What is counted is no duplicate, so its TTL is not asked for.
+pub fn hear(
+    row: &mut [u64],
+    p: Policy,
+    m: Ogm,
+    hna: &[u8],
+    bidirectional: bool,
+    position: Position,
+) -> Heard
+    requires { ⌜ Held (now row) × Bounded p × (isAddress (neighbourOf (m .link)) ≡ true) × Timely p (now row) (m .sequence) position ⌝ }
     ensures { λ r. ⌜ ((κ : Config) → Follows κ p → HeardIn κ (messageOf m (now (hna .entry))) bidirectional (now (row .entry)) (now (row .exit)) r) ⌝ }
 {
     let spot = locate(links_part(row), row[LINKS] as usize, m.link);
     let marks = spot.marks;
-    let duplicate = is_duplicate(row, p, m, marks);
+    let duplicate = is_duplicate(position, row[CURRENT] as u16, m.sequence, marks);
     if !(bidirectional & !duplicate) {
         let fresh = !duplicate | (m.ttl as u64 == row[LAST_TTL]);
         return Heard::Uncounted(answer_of(row, p, m, fresh));
     }
-    let counting = count_message(row, p, m, hna, spot);
+    let counting = count_message(row, p, m, hna, spot, position);
     match counting {
         Counting::Refused(f) => Heard::Refused(f),
         Counting::Done(marks) => Heard::Counted(answer_counted(row, p, m, marks)),

@@ -63,14 +63,15 @@ no-echo false true x n h = refl
 no-echo false false true n h = absurd (h refl)
 no-echo false false false n h = refl
 
-abbrev from23 : (o u p : Bool) → ℕ
-from23 o u p = cond o 23 (cond u 24 (cond p 26 25))
+abbrev from23 : (o u t p : Bool) → ℕ
+from23 o u t p = cond o 23 (cond u 24 (cond t 27 (cond p 26 25)))
 
-later : (o u p : Bool) → from23 o u p ≡ 22 → ⊥
-later true u p e = let z : _≡_ {A = ℕ} 23 22 = e in omega arith
-later false true p e = let z : _≡_ {A = ℕ} 24 22 = e in omega arith
-later false false true e = let z : _≡_ {A = ℕ} 26 22 = e in omega arith
-later false false false e = let z : _≡_ {A = ℕ} 25 22 = e in omega arith
+later : (o u t p : Bool) → from23 o u t p ≡ 22 → ⊥
+later true u t p e = let z : _≡_ {A = ℕ} 23 22 = e in omega arith
+later false true t p e = let z : _≡_ {A = ℕ} 24 22 = e in omega arith
+later false false true p e = let z : _≡_ {A = ℕ} 27 22 = e in omega arith
+later false false false true e = let z : _≡_ {A = ℕ} 26 22 = e in omega arith
+later false false false false e = let z : _≡_ {A = ℕ} 25 22 = e in omega arith
 
 -- ---- a received packet, by the rules
 
@@ -99,7 +100,7 @@ module _ (n : ℕ) (s : TableState) (w : R.wellFormed s ≡ true) (r : ReceiveAr
 
   at-22 : verdictThen table s r h q ≡ 22 → wouldEcho table s r h q ≡ true
   at-22 e =
-      is-echo (q .ownSender) (q .broadcastSender) (q .ownOriginator && q .echo) _ (later (q .ownOriginator) (q .unidirectional) (wouldPass table s r h q)) e
+      is-echo (q .ownSender) (q .broadcastSender) (q .ownOriginator && q .echo) _ (later (q .ownOriginator) (q .unidirectional) (q .stale) (wouldPass table s r h q)) e
 
   not-22 : (verdictThen table s r h q ≡ 22 → ⊥) → wouldEcho table s r h q ≡ false
   not-22 e = no-echo (q .ownSender) (q .broadcastSender) (q .ownOriginator && q .echo) _ e

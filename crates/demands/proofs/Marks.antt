@@ -15,8 +15,9 @@ use Rattle.lists.proofs.Tests.{both, and-left, and-right, and-at}
 use Rattle.lists.proofs.Lists.{all-kept}
 use Rattle.lists.proofs.Keyed.{lookup-mapValues, lookup-put, lookup-put-other, lookup-all}
 use Rattle.lists.proofs.Rising.{Rising, rising-put, rising-mapValues}
-use Rattle.window.specs.Window.{numbers, distance, inside, advance, marked, shift, mark, hasMark}
+use Rattle.window.specs.Window.{numbers, distance, new, inside, advance, marked, shift, mark, hasMark}
 use Rattle.window.proofs.Numbers.{distance-self}
+use Rattle.window.proofs.Positions.{new-outside}
 use Rattle.window.proofs.Window.{laws}
 use Rattle.rules.specs.Settings.{Config}
 use Rattle.rules.specs.Messages.{Message}
@@ -100,8 +101,8 @@ module _ (κ : Config) (m : Message) where
 
     -- once the window has moved, or not
     moved-up : marksAt (x .links) l < 2 ^ W → isMarked κ (moveTo κ (advance W (x .current) (sequenceOf m)) x) l n ≡ true → isMarked κ x l n ≡ true
-    unfolding isMarked advance
-    moved-up small h = go (inside W (x .current) (sequenceOf m)) refl h
+    unfolding isMarked advance new
+    moved-up small h = go (new W (x .current) (sequenceOf m)) refl h
       where
         c : ℕ
         c = x .current
@@ -113,15 +114,15 @@ module _ (κ : Config) (m : Message) where
         word : (k : ℕ) → (inside W k n && marked (marksAt (mapValues (shift W (distance k c)) (x .links)) l) k n) ≡ true → marked (shift W (distance k c) v) k n ≡ true
         word k g = turned (shift W (distance k c)) (x .links) l k n (and-right (inside W k n) (marked (marksAt (mapValues (shift W (distance k c)) (x .links)) l) k n) g)
 
-        go : (t : Bool) → inside W c (sequenceOf m) ≡ t
-            → (inside W (cond t c (sequenceOf m)) n && marked (marksAt (mapValues (shift W (distance (cond t c (sequenceOf m)) c)) (x .links)) l) (cond t c (sequenceOf m)) n) ≡ true
+        go : (t : Bool) → new W c (sequenceOf m) ≡ t
+            → (inside W (cond t (sequenceOf m) c) n && marked (marksAt (mapValues (shift W (distance (cond t (sequenceOf m) c) c)) (x .links)) l) (cond t (sequenceOf m) c) n) ≡ true
             → (inside W c n && marked v c n) ≡ true
-        go true d g =
+        go false d g =
             both (and-left (inside W c n) (marked (marksAt (mapValues (shift W (distance c c)) (x .links)) l) c n) g)
             (ap (λ k. marked k c n) (sym (ap (λ k. shift W k v) (distance-self c) ∙ laws W .stayed v small)) ∙ word c g)
-        go false d g =
+        go true d g =
             let k = sequenceOf m in
-            and-right (inside W k n) (inside W c n && marked v c n) (sym (laws W .moved v c k n hc (sequence-lt m) hn d) ∙ word k g)
+            and-right (inside W k n) (inside W c n && marked v c n) (sym (laws W .moved v c k n hc (sequence-lt m) hn (new-outside W c k d)) ∙ word k g)
 
   module _ (l n : ℕ) (hn : n < numbers) where
     pub first-marks : isMarked κ (firstRecord κ m) l n ≡ true → Own l n

@@ -5,18 +5,19 @@ use mathlib.Core.Logic.{_⊎_, inl, inr, ⊎-elim}
 use mathlib.Core.Bool.{Bool, true, false, cond, _&&_, not, true≢false}
 use mathlib.Core.Option.{Option, none, some, Option·map}
 use mathlib.Core.List.{List}
-use lib.Dec.{eqb}
+use lib.Dec.{leb, eqb}
 use lib.ListN.{length, set, getD}
 use lib.Seq.{set-getD}
 use native.Mathlib.Omega.{arith}
 use native.Mathlib.Nat.{mod-eq-of-lt}
-use borrow.Author.Tests.{ltb-true, eqb-true, eqb-false, ne-eqb, not-true}
+use borrow.Author.Tests.{ltb-true, leb-true, le-leb, eqb-true, eqb-false, ne-eqb, not-true}
 use Rattle.lists.specs.Lists.{maybe, and, all}
 use Rattle.lists.specs.Keyed.{lookup, put}
-use Rattle.lists.proofs.Tests.{by-test, and-left, and-right, and-at, all-at}
+use Rattle.lists.proofs.Tests.{by-test, both, and-left, and-right, and-at, all-at}
 use Rattle.lists.proofs.Keyed.{lookup-put, lookup-put-other, lookup-all}
 use Rattle.lists.proofs.Rising.{rising-in}
-use Rattle.window.specs.Window.{numbers, inside}
+use Rattle.window.specs.Window.{numbers, new, inside, stale}
+use Rattle.window.proofs.Positions.{inside-old}
 use Rattle.wire.specs.declared.Header.{Header}
 use Rattle.wire.specs.declared.Fault.{Fault}
 use Rattle.wire.specs.Layout.{sequenceAt}
@@ -26,14 +27,14 @@ use Rattle.wire.specs.Entries.{isClean, entriesOf}
 use Rattle.wire.proofs.Entries.{all-clean}
 use Rattle.rules.specs.Settings.{Config, octets, isOctet}
 use Rattle.rules.specs.Messages.{Message}
-use Rattle.rules.specs.Calls.{ReceiveArgs, receive, numberOf, isRefusal}
+use Rattle.rules.specs.Calls.{ReceiveArgs, receive, refusal, numberOf, refusalMost, isRefusal, isRuleRefusal}
 use Rattle.rules.specs.Rules.{OutcomeOf, linkBy, message, withTime, step}
-use Rattle.rules.specs.Table.{TableRecord, TableState, firstRecord, nextRecord, isMarked, recordEcho, table}
+use Rattle.rules.specs.Table.{TableRecord, TableState, firstRecord, nextRecord, isStaleIn, isMarked, recordEcho, table}
 use Rattle.rules.specs.Refusals.{Questions, found, questions, countedRecord, foreign, wouldEcho, wouldCount, stateThen, verdictThen, facts, outcome, Exactly}
 use Rattle.rules.specs.WellFormed.{recordTests, receiveTypes, typed}
 use Rattle.rules.specs.WellFormed as R
 use Rattle.rules.proofs.Faults.{none-at, hna-none}
-use Rattle.rules.proofs.Exactly.{exactly}
+use Rattle.rules.proofs.Exactly.{exactly, refusal-number, counts}
 use Rattle.rules.proofs.Parts.{Entry, record-parts}
 use Rattle.rules.proofs.WellFormed.{Wf, parts, wellFormed-step}
 use Rattle.table_layout.specs.Layout.{timeAt}
@@ -51,6 +52,9 @@ markedOf s o l n = maybe (lookup o (s .records)) false (λ x. isMarked (s .confi
 
 abbrev insideOf : TableState → (o n : ℕ) → Bool
 insideOf s o n = maybe (lookup o (s .records)) false (λ x. inside (s .config .settings .window) (x .current) n)
+
+abbrev staleOf : TableState → (o n : ℕ) → Bool
+staleOf s o n = maybe (lookup o (s .records)) false (λ x. stale (s .config .settings .window) (x .current) n)
 
 abbrev entriesOfRecord : Option TableRecord → Option (List ℕ)
 entriesOfRecord o = Option·map (λ x. x .entries) o
@@ -100,12 +104,6 @@ module _ (s : TableState) (w : Wf s) (r : ReceiveArgs) (t : typed (receive r) �
       let o = and-right (foreign table s r h q) (q .ownOriginator && q .echo) e in
       rw (a, b, o)
 
-  count-new : wouldCount table s r h q ≡ true → (q .bidirectional && not (q .duplicate)) ≡ true
-  count-new e =
-      let new = q .bidirectional && not (q .duplicate) in
-      and-right (not (q .unidirectional)) new
-      (and-right (not (q .ownOriginator)) (not (q .unidirectional) && new) (and-right (foreign table s r h q) (not (q .ownOriginator) && (not (q .unidirectional) && new)) e))
-
   rows-same : (wouldEcho table s r h q ≡ true → ⊥) → x .rows ≡ s .rows
   rows-same f = by-test (λ y. y ≡ s .rows) (wouldEcho table s r h q) (λ e. absurd (f e)) (λ _. refl)
 
@@ -126,24 +124,46 @@ module _ (s : TableState) (w : Wf s) (r : ReceiveArgs) (t : typed (receive r) �
   no-echo e y = true≢false (sym (echo-is y) ∙ e)
 
   no-count : q .bidirectional ≡ false → wouldCount table s r h q ≡ true → ⊥
-  no-count e y = true≢false (sym (and-left (q .bidirectional) (not (q .duplicate)) (count-new y)) ∙ e)
+  no-count e y = true≢false (sym (counts table s r h q y .bidirectional) ∙ e)
 
-  -- ---- a repeated packet is a duplicate, and its originator no own address
+  -- ---- an originator that has a record is no own address, so its packet is no echo
 
-  module _ (d : markedOf s (h .originator) (linkBy r) (h .sequence) ≡ true) where
-    is-duplicate : q .duplicate ≡ true
-    is-duplicate = ap (λ n. markedOf s (h .originator) (linkBy r) n) same-number ∙ d
-
+  module _ (P : TableRecord → Bool) (d : maybe (found table s r h) false P ≡ true) where
     not-own : q .ownOriginator ≡ false
     not-own = go (found table s r h) refl d
       where
-        go : (o : Option TableRecord) → found table s r h ≡ o → maybe o false (λ a. isMarked κ a (linkBy r) (h .sequence)) ≡ true → q .ownOriginator ≡ false
+        go : (o : Option TableRecord) → found table s r h ≡ o → maybe o false P ≡ true → q .ownOriginator ≡ false
         go none e g = absurd (true≢false (sym g))
         go (some a) e g = not-true (q .ownOriginator) (entry a e .foreign)
 
-    repeated-time : x ≡ withTime table s (r .time)
-    repeated-time =
-        only-time (λ e. true≢false (sym (echo-own e) ∙ not-own)) (λ e. true≢false (sym is-duplicate ∙ not-true (q .duplicate) (and-right (q .bidirectional) (not (q .duplicate)) (count-new e))))
+    own-time : (wouldCount table s r h q ≡ true → ⊥) → x ≡ withTime table s (r .time)
+    own-time = only-time (λ e. true≢false (sym (echo-own e) ∙ not-own))
+
+  -- a repeated packet is a duplicate, and a late one stale
+  repeated-time : markedOf s (h .originator) (linkBy r) (h .sequence) ≡ true → x ≡ withTime table s (r .time)
+  repeated-time d =
+      let duplicate : q .duplicate ≡ true = ap (λ n. markedOf s (h .originator) (linkBy r) n) same-number ∙ d in
+      own-time (λ a. isMarked κ a (linkBy r) (h .sequence)) d (λ e. true≢false (sym duplicate ∙ counts table s r h q e .unrepeated))
+
+  module _ (d : staleOf s (h .originator) (h .sequence) ≡ true) where
+    is-stale : q .stale ≡ true
+    unfolding isStaleIn
+    is-stale = ap (staleOf s (h .originator)) same-number ∙ d
+
+    late-time : x ≡ withTime table s (r .time)
+    late-time = own-time (λ a. stale (κ .settings .window) (a .current) (h .sequence)) d (λ e. true≢false (sym is-stale ∙ counts table s r h q e .timely))
+
+    -- its verdict is one of those before 25 and 26
+    late-verdict : eqb (verdictThen table s r h q) 26 ≡ false
+    late-verdict = rw is-stale (go (q .ownSender) (q .broadcastSender) (q .ownOriginator) (q .echo) (q .unidirectional))
+      where
+        go : (a b o e u : Bool) → eqb (cond a 20 (cond b 21 (cond (o && e) 22 (cond o 23 (cond u 24 27))))) 26 ≡ false
+        go true b o e u = refl
+        go false true o e u = refl
+        go false false true true u = refl
+        go false false true false u = refl
+        go false false false e true = refl
+        go false false false e false = refl
 
   -- ---- records
 
@@ -183,13 +203,13 @@ module _ (s : TableState) (w : Wf s) (r : ReceiveArgs) (t : typed (receive r) �
       → some (maybe o (firstRecord κ m) (nextRecord κ m) .entries) ≡ entriesOfRecord o
   unfolding nextRecord
   counted-kept none g = absurd (true≢false (sym g))
-  counted-kept (some a) g = ap (λ (t : Bool). some (cond t (a .entries) (m .entries))) (ap (inside (κ .settings .window) (a .current)) same-number ∙ g)
+  counted-kept (some a) g = ap (λ (t : Bool). some (cond t (m .entries) (a .entries))) (ap (new (κ .settings .window) (a .current)) same-number ∙ inside-old (κ .settings .window) (a .current) (h .sequence) g)
 
   counted-entries : (o : Option TableRecord)
       → (some (maybe o (firstRecord κ m) (nextRecord κ m) .entries) ≡ entriesOfRecord o) ⊎ (some (maybe o (firstRecord κ m) (nextRecord κ m) .entries) ≡ some (m .entries))
   unfolding firstRecord nextRecord
   counted-entries none = inr refl
-  counted-entries (some a) = by-test (λ es. (some es ≡ some (a .entries)) ⊎ (some es ≡ some (m .entries))) (inside (κ .settings .window) (a .current) (h .sequence % numbers)) (λ _. inl refl) (λ _. inr refl)
+  counted-entries (some a) = by-test (λ es. (some es ≡ some (a .entries)) ⊎ (some es ≡ some (m .entries))) (new (κ .settings .window) (a .current) (h .sequence % numbers)) (λ _. inr refl) (λ _. inl refl)
 
   -- the originator's, where the message is counted
   put-entries : entriesOfRecord (lookup (h .originator) (put (h .originator) (countedRecord table s r h) (s .records))) ≡ some (countedRecord table s r h .entries)
@@ -219,14 +239,17 @@ module _ (s : TableState) (w : Wf s) (r : ReceiveArgs) (t : typed (receive r) �
 
 -- ---- of cells
 
+rule-refusal : (n : ℕ) → isRuleRefusal n ≡ true → isRefusal n ≡ true
+rule-refusal n h = both (le-leb 1 n (omega (arith, leb-true 2 n (and-left (leb 2 n) (leb n refusalMost) h)))) (and-right (leb 2 n) (leb n refusalMost) h)
+
 time-set : (s : TableState) (u : ℕ) → encode (withTime table s u) ≡ set (encode s) timeAt u
 unfolding encode
 time-set s u = refl
 
 module _ (c : List ℕ) (r : ReceiveArgs) where
-  -- no cell is changed
-  unchanged : (wellFormed c ≡ false → done c r ≡ refused c (receive r) 1) → left c r ≡ c → Strangers c r
-  unchanged one same =
+  -- refused: no cell is changed
+  unchanged : isRefusal (number c r) ≡ true → (wellFormed c ≡ false → done c r ≡ refused c (receive r) 1) → left c r ≡ c → Strangers c r
+  unchanged off one same =
       record {
         unformed = one;
         turnedAway = λ _. same;
@@ -238,6 +261,8 @@ module _ (c : List ℕ) (r : ReceiveArgs) where
         unheard = λ _. rw same;
         silent = λ _ _. untimed;
         repeated = λ _. untimed;
+        late = λ _. untimed;
+        lateStops = λ _ e. true≢false (sym off ∙ ap isRefusal e);
         others = λ o _. rw same;
         marks = λ o l n _ _ g. ap (λ (d : List ℕ). isMarkedIn d o l n) (sym same) ∙ g;
         keptEntries = λ _. rw same;
@@ -249,7 +274,8 @@ module _ (c : List ℕ) (r : ReceiveArgs) where
       untimed = (getD c timeAt 0, same ∙ sym (set-getD c timeAt 0))
 
   unformed : wellFormed c ≡ false → Strangers c r
-  unformed e = let off = turned-away c (receive r) e in unchanged (λ _. off) (ap (λ (d : Done). d .cells) off)
+  unfolding refusal
+  unformed e = let off = turned-away c (receive r) e in unchanged (ap (λ (d : Done). isRefusal (numberOf (d .reply .answer))) off) (λ _. off) (ap (λ (d : Done). d .cells) off)
 
   module _ (t : typed (receive r) ≡ true) (good : wellFormed c ≡ true) where
     abbrev before : TableState
@@ -269,7 +295,10 @@ module _ (c : List ℕ) (r : ReceiveArgs) where
     goes o e = goes-on c (receive r) good ∙ ap (λ (y : OutcomeOf table). record { reply = y .reply; cells = encode (y .state) }) e
 
     refuses : (f : Fault) → firstOf (facts table (length c) before (receive r)) ≡ some f → Strangers c r
-    refuses f e = unchanged not-one (ap (λ (d : Done). d .cells) (goes _ (rules .refused f e)) ∙ laws .cells c good)
+    refuses f e =
+        let off = goes _ (rules .refused f e) in
+        unchanged (ap (λ (d : Done). isRefusal (numberOf (d .reply .answer))) off ∙ ap isRefusal (refusal-number (receive r) f) ∙ rule-refusal (f .number) (rules .numbers f e)) not-one
+        (ap (λ (d : Done). d .cells) off ∙ laws .cells c good)
 
     takes : firstOf (facts table (length c) before (receive r)) ≡ none → Strangers c r
     unfolding decode outcome facts
@@ -297,6 +326,8 @@ module _ (c : List ℕ) (r : ReceiveArgs) where
           unheard = λ g. ap (λ (z : TableState). z .records) e ∙ records-same before w r t (no-count before w r t g);
           silent = λ f g. timed (only-time before w r t (no-echo before w r t f) (no-count before w r t g));
           repeated = λ g. timed (repeated-time before w r t g);
+          late = λ g. timed (late-time before w r t g);
+          lateStops = λ g k. eqb-false _ 26 (late-verdict before w r t g) (sym v ∙ k);
           others = λ o f. ap (λ (z : TableState). lookup o (z .records)) e ∙ others-same before w r t o f;
           marks = λ o l m small f g. marks-before before w r t o l m small f (ap (λ (z : TableState). markedOf z o l m) (sym e) ∙ g);
           keptEntries = λ g. ap (λ (z : TableState). entriesOfRecord (lookup (said r .originator) (z .records))) e ∙ entries-kept before w r t g;

@@ -10,7 +10,7 @@ use mathlib.Core.List.{List}
 use lib.ListN.{set}
 use Rattle.lists.specs.Lists.{maybe, all}
 use Rattle.lists.specs.Keyed.{lookup, hasKey}
-use Rattle.window.specs.Window.{numbers, inside}
+use Rattle.window.specs.Window.{numbers, inside, stale}
 use Rattle.wire.specs.declared.Header.{Header}
 use Rattle.wire.specs.Packet.{header, hna}
 use Rattle.wire.specs.Entries.{isClean, entriesOf}
@@ -28,6 +28,10 @@ isMarkedIn c o l n = maybe (lookup o (recordsIn c)) false (λ x. isMarked (confi
 -- originator o has a record whose window holds the number n
 abbrev pub isInsideIn : List ℕ → (o n : ℕ) → Bool
 isInsideIn c o n = maybe (lookup o (recordsIn c)) false (λ x. inside (configIn c .settings .window) (x .current) n)
+
+-- originator o has a record to whose window the number n is stale
+abbrev pub isStaleIn : List ℕ → (o n : ℕ) → Bool
+isStaleIn c o n = maybe (lookup o (recordsIn c)) false (λ x. stale (configIn c .settings .window) (x .current) n)
 
 -- the entries that originator o's record keeps, if it has one
 abbrev pub entriesIn : List ℕ → (o : ℕ) → Option (List ℕ)
@@ -69,6 +73,9 @@ module _ (c : List ℕ) (r : ReceiveArgs) where
     pub silent : isEcho (configIn c) (sendsIn c) r (said r) ≡ false → hasKey (linkBy r) (rowsIn c) ≡ false → OnlyTime c left
     -- a repeated packet, one whose number is inside the window and marked on its link, changes no cell but the time's (RULES 4.4)
     pub repeated : isMarkedIn c (said r .originator) (linkBy r) (said r .sequence) ≡ true → OnlyTime c left
+    -- a late packet, one whose number is stale to its originator's record, changes no cell but the time's, and is not passed on, whoever sent it (RULES 6.3)
+    pub late : isStaleIn c (said r .originator) (said r .sequence) ≡ true → OnlyTime c left
+    pub lateStops : isStaleIn c (said r .originator) (said r .sequence) ≡ true → number ≡ 26 → ⊥
     -- any one packet changes at most one record, that of its originator (RULES 6.4)
     pub others : (o : ℕ) → (o ≡ said r .originator → ⊥) → lookup o (recordsIn left) ≡ lookup o (recordsIn c)
     -- and in it marks at most one number, its own on its own link: every other that is marked then was marked before, so none in a new record

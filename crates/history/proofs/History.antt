@@ -19,9 +19,10 @@ use Rattle.history.specs.Book.{book}
 use Rattle.history.specs.History.{after, replies}
 use Rattle.history.specs.TableOfBook.{recordOf, rowsOf, tableOf}
 use Rattle.history.specs.Demand.{tableThen}
-use Rattle.history.proofs.Sound.{fresh-sound}
+use Rattle.history.proofs.Sound.{Keeps, fresh-sound}
 use Rattle.history.proofs.Readings.{Agree, history-same}
-use Rattle.history.proofs.Records.{links-same, marked-stays, count-next, first-one}
+use Rattle.history.proofs.Log.{isTimely, allTimely}
+use Rattle.history.proofs.Records.{links-same, stale-same, marked-stays, count-next, first-one}
 use Rattle.history.proofs.Neighbours.{hasRow-same, rowsHeld-same, echo-same, sent-same}
 
 agree : (κ : Config) → allowed κ ≡ true → Agree book table recordOf rowsOf κ
@@ -29,7 +30,8 @@ unfolding rowsOf
 agree κ h =
     record {
       first = first-one κ h;
-      next = count-next κ h;
+      next = λ m s. count-next κ h m s;
+      stale = λ s m. stale-same κ s (sequenceOf m);
       time = λ s. refl;
       lastTtl = λ s. refl;
       duplicate = λ s m. marked-stays κ s (m .link) (sequenceOf m) (sequence-lt m);
@@ -44,11 +46,16 @@ agree κ h =
       sent = λ ns fit. sent-same κ ns h fit;
     }
 
+-- no log of a book has an OGM that was stale when it was counted
+pub timely-kept : Keeps book allTimely
+unfolding allTimely isTimely
+timely-kept = record { first = λ κ m. refl; next = λ κ m s p t. both (ap not t) p }
+
 -- a history from a fresh table and the book that starts with it: equal replies, and the table is the book's
 pub history : (cells : ℕ) (κ : Config) → allowed κ ≡ true → (cs : List Call)
     → (replies table cells (fresh table κ) cs ≡ replies book cells (fresh book κ) cs) × (after table cells (fresh table κ) cs ≡ tableOf (after book cells (fresh book κ) cs))
 unfolding rowsOf
-history cells κ h cs = history-same book table recordOf rowsOf agree cells (fresh book κ) (fresh-sound book κ h) cs
+history cells κ h cs = history-same book table recordOf rowsOf agree allTimely timely-kept cells (fresh book κ) (fresh-sound book allTimely timely-kept κ h) cs
 
 -- every history's table is well-formed
 after-wellFormed : (cells : ℕ) (s : TableState) → wellFormed s ≡ true → (cs : List Call) → all typed cs ≡ true → wellFormed (after table cells s cs) ≡ true

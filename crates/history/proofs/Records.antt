@@ -1,30 +1,31 @@
 -- Counting one OGM on the record of a log gives the record of the longer log.
 use Prim.Native.Nat.{ℕ, _-_, _<_}
 use mathlib.Core.Path.{_≡_, refl, sym, ap, ap₂, _∙_}
-use mathlib.Core.Bool.{Bool, true, false, cond, _&&_, _||_, and-false, or-false, true≢false}
+use mathlib.Core.Bool.{Bool, true, false, cond, _&&_, _||_, not, and-false, or-false, true≢false}
 use mathlib.Core.Option.{Option}
 use mathlib.Core.List.{List, [], _∷_}
 use lib.Dec.{ltb, eqb, leb}
 use native.Mathlib.Omega.{arith}
-use borrow.Author.Tests.{ltb-true, ltb-false, eq-eqb}
+use borrow.Author.Tests.{ltb-false, eq-eqb}
 use Rattle.lists.specs.Lists.{maybe, keep, elem}
 use Rattle.lists.specs.Keyed.{put, putKey, mapValues, tabulate}
 use Rattle.lists.proofs.Tests.{by-test, cond-same, or-right, or-neither}
 use Rattle.lists.proofs.Lists.{keep-same, keep-map, all-map, all-same, map-same, elem-keep}
 use Rattle.lists.proofs.Keyed.{mapValues-tabulate, lookup-tabulate, put-tabulate, keep-putKey, all-putKey}
-use Rattle.window.specs.Window.{numbers, distance, inside, advance, bit, shift, mark, count, hasMark, word}
+use Rattle.window.specs.Window.{numbers, distance, new, inside, advance, bit, shift, mark, count, hasMark, word}
 use Rattle.window.proofs.Numbers.{distance-back, distance-self, distance-turn}
+use Rattle.window.proofs.Positions.{inside-lt, outside-le}
 use Rattle.window.proofs.Words.{word-same, word-none, tally-none, none-tally}
 use Rattle.window.proofs.Window.{laws, word-laws}
 use Rattle.rules.specs.Settings.{Config, allowed}
 use Rattle.rules.specs.Messages.{Message}
 use Rattle.rules.specs.Rules.{sequenceOf, standsBelow}
-use Rattle.rules.specs.Table.{TableRecord, marksAt, isHighest, settle, withLinks, withEntries, moveTo, firstRecord, nextRecord, isMarked}
+use Rattle.rules.specs.Table.{TableRecord, marksAt, isHighest, settle, withLinks, withEntries, moveTo, firstRecord, nextRecord, isStaleIn, isMarked}
 use Rattle.rules.proofs.Config.{window-low, window-high}
 use Rattle.rules.proofs.Counting.{sequence-lt}
-use Rattle.history.specs.Book.{Log, one, cons, current, logEntries, stays, logCount, logLinks, othersBelow, logBest, isHeld, heldLinks}
+use Rattle.history.specs.Book.{Log, one, cons, current, logEntries, isStaleTo, stays, logCount, logLinks, othersBelow, logBest, isHeld, heldLinks}
 use Rattle.history.specs.TableOfBook.{marksOf, recordOf}
-use Rattle.history.proofs.Log.{W, current-lt, outside-false, absent, inside-below, stays-next, latest-in, zero-below}
+use Rattle.history.proofs.Log.{W, isTimely, current-lt, outside-false, absent, inside-below, stays-next, latest-in, zero-below}
 
 -- ---- the words of a log's links
 
@@ -63,24 +64,33 @@ module _ (κ : Config) (s : Log) where
 
 -- a number is marked exactly if it stays
 pub marked-stays : (κ : Config) (s : Log) (l n : ℕ) → n < numbers → isMarked κ (recordOf κ s) l n ≡ stays κ s l n
-unfolding isMarked inside marksOf
+unfolding isMarked marksOf
 marked-stays κ s l n hn = go (inside (W κ) (current κ s) n) refl
   where
     go : (t : Bool) → inside (W κ) (current κ s) n ≡ t → (t && bit (marksAt (recordOf κ s .links) l) (distance (current κ s) n)) ≡ stays κ s l n
     go true e =
         ap (λ v. bit v (distance (current κ s) n)) (marks-at κ s l)
-        ∙ word-laws (W κ) .bit-word (λ k. stays κ s l (distance (current κ s) k)) (distance (current κ s) n) (ltb-true (distance (current κ s) n) (W κ) e)
+        ∙ word-laws (W κ) .bit-word (λ k. stays κ s l (distance (current κ s) k)) (distance (current κ s) n) (inside-lt (W κ) (current κ s) n e)
         ∙ ap (stays κ s l) (distance-back (current κ s) n (current-lt κ s) hn)
-    go false e = sym (outside-false κ s l n (ltb-false (distance (current κ s) n) (W κ) e))
+    go false e = sym (outside-false κ s l n (outside-le (W κ) (current κ s) n e))
+
+-- and stale to the record exactly if it is to the log
+pub stale-same : (κ : Config) (s : Log) (n : ℕ) → isStaleIn κ (recordOf κ s) n ≡ isStaleTo κ s n
+unfolding isStaleIn isStaleTo
+stale-same κ s n = refl
 
 -- ---- one more OGM
 
-module _ (κ : Config) (h : allowed κ ≡ true) (m : Message) (s : Log) where
+module _ (κ : Config) (h : allowed κ ≡ true) (m : Message) (s : Log) (timely : isStaleTo κ s (sequenceOf m) ≡ false) where
   abbrev c : ℕ
   c = current κ (cons m s)
 
   abbrev d : ℕ
   d = distance (current κ (cons m s)) (current κ s)
+
+  counted-timely : isTimely κ (cons m s) ≡ true
+  unfolding isTimely
+  counted-timely = ap not timely
 
   -- the words before, moved up to the current number then
   abbrev up : ℕ → ℕ
@@ -105,7 +115,7 @@ module _ (κ : Config) (h : allowed κ ≡ true) (m : Message) (s : Log) where
   unfolding marksOf
   marks-own =
       ap (λ v. mark v (distance c (sequenceOf m))) (up-marks (m .link))
-      ∙ word-laws (W κ) .mark-word (moved (m .link)) (distance c (sequenceOf m)) (latest-in κ h (cons m s))
+      ∙ word-laws (W κ) .mark-word (moved (m .link)) (distance c (sequenceOf m)) (latest-in κ h (cons m s) counted-timely)
       ∙ word-same (W κ) _ _ (λ k g. sym (next-stays (m .link) k true (eq-eqb (m .link) (m .link) refl) g))
 
   -- a link that was not held, and is not the OGM's, has no marks then and is not held
@@ -148,7 +158,7 @@ module _ (κ : Config) (h : allowed κ ≡ true) (m : Message) (s : Log) where
       all-map (λ l. (l, marksOf κ (cons m s) l)) _ (putKey (m .link) (heldLinks κ s))
       ∙ all-same _ p (λ l. ap₂ (λ x y. eqb l (m .link) || standsBelow κ x y) (count-marks κ (cons m s) l) (count-marks κ (cons m s) (m .link))) (putKey (m .link) (heldLinks κ s))
       ∙ all-putKey p (isHeld κ s) (m .link)
-      (λ l e q. ap₂ (λ (t : Bool) (n : ℕ). t || standsBelow κ n (logCount κ (cons m s) (m .link))) e (none-next l e q) ∙ zero-below κ h (cons m s)) (logLinks s)
+      (λ l e q. ap₂ (λ (t : Bool) (n : ℕ). t || standsBelow κ n (logCount κ (cons m s) (m .link))) e (none-next l e q) ∙ zero-below κ h (cons m s) counted-timely) (logLinks s)
 
   kept-next : keep (λ (e : ℕ × ℕ). hasMark (e .1) || eqb (e .0) (logBest κ (cons m s))) among ≡ recordOf κ (cons m s) .links
   unfolding logLinks isHeld
@@ -173,7 +183,7 @@ module _ (κ : Config) (h : allowed κ ≡ true) (m : Message) (s : Log) where
       ∙ ap (with (logBest κ (cons m s))) kept-next
 
   pub count-next : nextRecord κ m (recordOf κ s) ≡ recordOf κ (cons m s)
-  unfolding nextRecord current logEntries advance
+  unfolding nextRecord current logEntries advance new
   count-next =
       ap (λ v. settle κ m v (withLinks (put (m .link) v (moved-up .links)) moved-up)) (ap (λ v. mark v (distance c (sequenceOf m))) word-before ∙ marks-own)
       ∙ ap (λ (ls : List (ℕ × ℕ)). settle κ m (marksOf κ (cons m s) (m .link)) (withLinks ls moved-up)) links-next

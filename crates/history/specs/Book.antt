@@ -6,7 +6,7 @@ use lib.Dec.{ltb, eqb}
 use lib.ListN.{length}
 use Rattle.lists.specs.Lists.{keep, all}
 use Rattle.lists.specs.Keyed.{hasKey, put, putKey, tabulate}
-use Rattle.window.specs.Window.{distance, inside, tally}
+use Rattle.window.specs.Window.{distance, new, inside, stale, tally}
 use Rattle.rules.specs.Settings.{Config}
 use Rattle.rules.specs.Calls.{interfaceOf}
 use Rattle.rules.specs.Messages.{Message}
@@ -26,12 +26,16 @@ latest (cons m s) = m
 -- the list's last number that was first or new
 unfoldable pub current : Config → Log → ℕ
 current κ (one m) = sequenceOf m
-current κ (cons m s) = cond (inside (κ .settings .window) (current κ s) (sequenceOf m)) (current κ s) (sequenceOf m)
+current κ (cons m s) = cond (new (κ .settings .window) (current κ s) (sequenceOf m)) (sequenceOf m) (current κ s)
 
 -- the entries of the list's last OGM whose number was first or new
 unfoldable pub logEntries : Config → Log → List ℕ
 logEntries κ (one m) = m .entries
-logEntries κ (cons m s) = cond (inside (κ .settings .window) (current κ s) (sequenceOf m)) (logEntries κ s) (m .entries)
+logEntries κ (cons m s) = cond (new (κ .settings .window) (current κ s) (sequenceOf m)) (m .entries) (logEntries κ s)
+
+-- a number is stale to the window of these OGMs
+unfoldable pub isStaleTo : Config → Log → (n : ℕ) → Bool
+isStaleTo κ s n = stale (κ .settings .window) (current κ s) n
 
 -- m is an OGM through link l with number n
 abbrev pub came : Message → (l n : ℕ) → Bool
@@ -91,6 +95,7 @@ book =
       next = λ κ m s. cons m s;
       time = λ s. latest s .time;
       lastTtl = λ s. latest s .ttl;
+      stale = isStaleTo;
       duplicate = stays;
       best = logBest;
       isBest = λ κ s l. eqb (logBest κ s) l;

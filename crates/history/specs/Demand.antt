@@ -8,7 +8,7 @@ use mathlib.Core.List.{List, [], _∷_}
 use lib.Dec.{eqb}
 use Rattle.lists.specs.Lists.{keep}
 use Rattle.lists.specs.Keyed.{lookup}
-use Rattle.window.specs.Window.{numbers, distance, count, tally}
+use Rattle.window.specs.Window.{numbers, distance, new, inside, count, tally}
 use Rattle.rules.specs.Settings.{Config, MakeArgs, configOf}
 use Rattle.rules.specs.Calls.{Call}
 use Rattle.rules.specs.Messages.{Message}
@@ -34,7 +34,7 @@ pub record Stayed (κ : Config) (s : Log) (l n : ℕ) : Type 0 where
   pub stood : Stood s at
   pub link : latest at .link ≡ l
   pub number : sequenceOf (latest at) ≡ n
-  pub inside : (u : Log) → Stood s u → Stood u at → distance (current κ u) n < κ .settings .window
+  pub within : (u : Log) → Stood s u → Stood u at → inside (κ .settings .window) (current κ u) n ≡ true
 
 -- the count of link l after the latest count of t is how many of the window's numbers stayed on it
 pub record HowMany (κ : Config) (t : Log) (l : ℕ) : Type 0 where
@@ -54,10 +54,10 @@ pub record Best (κ : Config) (s : Log) (b : ℕ) : Type 0 where
   pub highest : OthersBelow κ at
   pub last : (u : Log) → Stood s u → Later u at → OthersBelow κ u → ⊥
 
--- the latest message of a log made the record, or moved the window: its number lay outside the window that stood before it
+-- the latest message of a log made the record, or moved the window: its number was new to the window that stood before it
 pub data MadeOrMoved (κ : Config) : Log → Type 0 where
   made : {m : Message} → MadeOrMoved κ (one m)
-  moved : {m : Message} {s : Log} → κ .settings .window ≤ distance (current κ s) (sequenceOf m) → MadeOrMoved κ (cons m s)
+  moved : {m : Message} {s : Log} → new (κ .settings .window) (current κ s) (sequenceOf m) ≡ true → MadeOrMoved κ (cons m s)
 
 -- es are the entries of the latest message that made the record or moved the window
 pub record Entries (κ : Config) (s : Log) (es : List ℕ) : Type 0 where

@@ -23,7 +23,7 @@ use Rattle.rules.specs.Settings.{neighbourMost, linkMost, entryMost, ttl
 use Rattle.rules.specs.Calls.{received, ReceiveArgs, Call, make, receive, burst, own, sweep, question, list, locate, numberOf, isRefusal, isRuleRefusal, receivedAs, Reply, answeredWriting, refusal}
 use Rattle.rules.specs.Rules.{Reading, StateOf, OutcomeOf, branch, unless, receiveFaults, receiveFault, burstFits, ownFault, linkBy, singleHop, message, conclude, ownHeader, withTime, withRecords, routeOf, linkRows, isPassedOn, refuse, answerBest, fillRows, verdict, countedFaults, storeCounted, counted, uncounted, decide, takeEcho, judge, takeBurst, send, purge, locatedBy, entriesHeld, answerLocate, step}
 use Rattle.rules.specs.Lookup.{Announced, serving}
-use Rattle.rules.specs.Refusals.{firstThat, Questions, found, questions, countedRecord, wouldEcho, wouldCount, roomFacts, verdicts, taken, facts, outcome, Exactly}
+use Rattle.rules.specs.Refusals.{firstThat, Questions, found, questions, countedRecord, foreign, wouldEcho, wouldCount, roomFacts, verdicts, taken, facts, outcome, Exactly}
 use Rattle.rules.proofs.Faults.{first-append, first-single, unless-then, numbered, first-numbered, given-numbered, packet-numbered, written-numbered}
 
 -- the way of a test, with what the test says
@@ -34,16 +34,38 @@ either false p q = q refl
 
 -- ---- a received packet
 
+-- what is so of one that would be counted
+pub record Counts (q : Questions) : Type 0 where
+  pub other : q .ownOriginator ≡ false
+  pub timely : q .stale ≡ false
+  pub bidirectional : q .bidirectional ≡ true
+  pub unrepeated : q .duplicate ≡ false
+
+pub counts : (W : Reading) (s : StateOf W) (r : ReceiveArgs) (h : Header) (q : Questions) → wouldCount W s r h q ≡ true → Counts q
+counts W s r h q e =
+    let both-ask = q .bidirectional && not (q .duplicate) in
+    let in-time = not (q .stale) && both-ask in
+    let no-u = not (q .unidirectional) && in-time in
+    let x = and-right (foreign W s r h q) (not (q .ownOriginator) && no-u) e in
+    let y = and-right (not (q .unidirectional)) in-time (and-right (not (q .ownOriginator)) no-u x) in
+    let z = and-right (not (q .stale)) both-ask y in
+    record {
+      other = not-true (q .ownOriginator) (and-left (not (q .ownOriginator)) no-u x);
+      timely = not-true (q .stale) (and-left (not (q .stale)) both-ask y);
+      bidirectional = and-left (q .bidirectional) (not (q .duplicate)) z;
+      unrepeated = not-true (q .duplicate) (and-right (q .bidirectional) (not (q .duplicate)) z);
+    }
+
 module _ (W : Reading) (s : StateOf W) (r : ReceiveArgs) (h : Header) where
   -- what RULES 6 says of it, by the answers to its questions
-  abbrev page : (a b o e u k d f : Bool) → OutcomeOf W
-  page a b o e u k d f =
-      let q : Questions = record { ownSender = a; broadcastSender = b; ownOriginator = o; echo = e; unidirectional = u; bidirectional = k; duplicate = d; fresh = f } in
+  abbrev page : (a b o e u t k d f : Bool) → OutcomeOf W
+  page a b o e u t k d f =
+      let q : Questions = record { ownSender = a; broadcastSender = b; ownOriginator = o; echo = e; unidirectional = u; stale = t; bidirectional = k; duplicate = d; fresh = f } in
       unless (firstOf (roomFacts W s r h q)) (refuse W (receive r) s) (taken W s r h q)
 
   -- of a packet that comes so far that counting and passing on are asked
   abbrev last : (k d f : Bool) → OutcomeOf W
-  last k d f = page false false false false false k d f
+  last k d f = page false false false false false false k d f
 
   -- verdicts 25 and 26 by one number
   abbrev replied : (k t : Bool) → Route → Reply
@@ -80,9 +102,9 @@ module _ (W : Reading) (s : StateOf W) (r : ReceiveArgs) (h : Header) where
   decide-flat true false f = counted-flat f (found W s r h) refl
   decide-flat false d f = uncounted-flat false f
 
-  echo-flat : (u d f : Bool) → takeEcho W s r h ≡ page false false true true u (W .hasRow (s .config) (s .rows) (linkBy r)) d f
+  echo-flat : (u t d f : Bool) → takeEcho W s r h ≡ page false false true true u t (W .hasRow (s .config) (s .rows) (linkBy r)) d f
   unfolding takeEcho verdict
-  echo-flat u d f =
+  echo-flat u t d f =
       rw (first-single (given (not (W .hasRow (s .config) (s .rows) (linkBy r)) && leb neighbourMost (W .rowsHeld (s .config) (s .rows))) 9))
 
   judge-flat : judge W s r h ≡ unless (firstOf (roomFacts W s r h (questions W s r h))) (refuse W (receive r) s) (taken W s r h (questions W s r h))
@@ -92,8 +114,9 @@ module _ (W : Reading) (s : StateOf W) (r : ReceiveArgs) (h : Header) where
       either (q .ownSender) (λ a. rw a)
       (λ a. either (q .broadcastSender) (λ b. rw (a, b))
       (λ b. either (q .ownOriginator)
-      (λ o. either (q .echo) (λ e. rw (a, b, o, e) (echo-flat (q .unidirectional) (q .duplicate) (q .fresh))) (λ e. rw (a, b, o, e)))
-      (λ o. either (q .unidirectional) (λ u. rw (a, b, o, u)) (λ u. rw (a, b, o, u) (decide-flat (q .bidirectional) (q .duplicate) (q .fresh))))))
+      (λ o. either (q .echo) (λ e. rw (a, b, o, e) (echo-flat (q .unidirectional) (q .stale) (q .duplicate) (q .fresh))) (λ e. rw (a, b, o, e)))
+      (λ o. either (q .unidirectional) (λ u. rw (a, b, o, u))
+      (λ u. either (q .stale) (λ t. rw (a, b, o, u, t)) (λ t. rw (a, b, o, u, t) (decide-flat (q .bidirectional) (q .duplicate) (q .fresh)))))))
 
 -- ---- every call
 

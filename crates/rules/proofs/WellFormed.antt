@@ -16,7 +16,7 @@ use Rattle.lists.proofs.Tests.{by-test, both, and-left, and-right, and-open, an
 use Rattle.lists.proofs.Lists.{keep-length, all-weaken}
 use Rattle.lists.proofs.Keyed.{length-mapValues, lookup-put-other, hasKey-put, hasKey-length, lookup-all, all-put}
 use Rattle.lists.proofs.Rising.{Rising, rising-in, rising-out, rising-put, Held, held-weaken, held-keep, held-put}
-use Rattle.window.specs.Window.{numbers, distance, inside, count}
+use Rattle.window.specs.Window.{numbers, distance, new, count}
 use Rattle.window.proofs.Numbers.{distance-self}
 use Rattle.wire.specs.declared.Header.{Header}
 use Rattle.wire.specs.Layout.{headerSize, entrySize, maskMost, ttlAt, originatorAt, maskAt}
@@ -24,10 +24,10 @@ use Rattle.wire.specs.Packet.{octet, read4, header, hna}
 use Rattle.wire.specs.Check.{firstOf, entries, network, mask}
 use Rattle.wire.specs.Entries.{entryAt}
 use Rattle.wire.proofs.Entries.{network-of, mask-of, all-entries, masks-low}
-use Rattle.rules.specs.Settings.{Config, configOf, allowed, makeAllowed, neighbourMost, linkMost, entryMost, interfaceMost, octets, addresses, isOctet, isAddress, isNumber, isTime, isInUse, isOwn}
+use Rattle.rules.specs.Settings.{Config, configOf, allowed, makeAllowed, neighbourMost, linkMost, entryMost, interfaceMost, octets, addresses, isOctet, isAddress, isNumber, isTime, isInUse}
 use Rattle.rules.specs.Calls.{neighbourOf, interfaceOf, ReceiveArgs, OwnArgs, packetsOf, singleCall, Call, make, receive, burst, own, sweep, question, list, locate}
 use Rattle.rules.specs.Messages.{Message}
-use Rattle.rules.specs.Rules.{sequenceOf, Sends, hasSent, lastSent, nextNumber, sendOn, linkBy, message, echoTests, ownPacket, fresh, isExpired, answerBest, fillRows, answerLocate, receiveOn, takeBurst, send, purge, step}
+use Rattle.rules.specs.Rules.{sequenceOf, Sends, hasSent, lastSent, nextNumber, sendOn, linkBy, message, isStale, echoTests, ownPacket, fresh, isExpired, answerBest, fillRows, answerLocate, receiveOn, takeBurst, send, purge, step}
 use Rattle.rules.specs.Table.{TableRecord, TableState, firstRecord, nextRecord, recordEcho, rowDistance, dropOld, table}
 use Rattle.rules.specs.Refusals.{Questions, found, questions, countedRecord, foreign, wouldEcho, wouldCount, facts, outcome}
 use Rattle.rules.specs.WellFormed.{sendTests, rowTests, entryTests, entriesOk, recordTests, tableTests, wellFormed, receiveTypes, typed}
@@ -37,7 +37,7 @@ use Rattle.rules.proofs.Links.{neighbour-of, interface-of}
 use Rattle.rules.proofs.Sends.{Fit, next-lt, last-lt, last-other}
 use Rattle.rules.proofs.Counting.{sequence-lt, advance-lt, Links, first-links, next-links}
 use Rattle.rules.proofs.Parts.{row-parts, row-whole, record-parts, record-whole, record-later}
-use Rattle.rules.proofs.Exactly.{step-keeps}
+use Rattle.rules.proofs.Exactly.{step-keeps, counts}
 use Rattle.rules.proofs.Bursts.{each-keeps, packets-typed}
 
 -- ---- a well-formed table, part by part
@@ -288,14 +288,14 @@ module _ (cells : ℕ) (s : TableState) (w : Wf s) (r : ReceiveArgs) (t : typed 
       has-sent = and-at (echoTests κ (s .sends) r h) (and-right (q .ownOriginator) (q .echo) (and-right (foreign table s r h q) (q .ownOriginator && q .echo) e)) 2
 
   -- the counted record: its current number and links, and the rest of its tests
-  counted-parts : (x : Option TableRecord) → found table s r h ≡ x
+  counted-parts : (x : Option TableRecord) → found table s r h ≡ x → isStale table κ r h x ≡ false
       → (maybe x (firstRecord κ m) (nextRecord κ m) .current < numbers) × Links κ (maybe x (firstRecord κ m) (nextRecord κ m) .best) (maybe x (firstRecord κ m) (nextRecord κ m) .links)
   unfolding firstRecord nextRecord
-  counted-parts none e = (sequence-lt m, first-links κ (w .allowed) m sender interface)
-  counted-parts (some a) e =
+  counted-parts none e timely = (sequence-lt m, first-links κ (w .allowed) m sender interface)
+  counted-parts (some a) e timely =
       let p = record-parts κ (s .time) (h .originator, a) (lookup-all (λ x. and (recordTests κ (s .time) x)) (h .originator) a (s .records) (w .records .each) e) in (
         advance-lt (κ .settings .window) (a .current) (sequenceOf m) (ltb-true (a .current) numbers (p .current)) (sequence-lt m),
-        next-links κ (w .allowed) m sender interface a (record { rise = rising-in (a .links) (p .rise); best = p .best; each = p .each }),
+        next-links κ (w .allowed) m sender interface a timely (record { rise = rising-in (a .links) (p .rise); best = p .best; each = p .each }),
       )
 
   counted-entries : (x : Option TableRecord) → found table s r h ≡ x → entriesOk (maybe x (firstRecord κ m) (nextRecord κ m) .entries) ≡ true
@@ -303,7 +303,7 @@ module _ (cells : ℕ) (s : TableState) (w : Wf s) (r : ReceiveArgs) (t : typed 
   counted-entries none e = message-entries
   counted-entries (some a) e =
       let p = record-parts κ (s .time) (h .originator, a) (lookup-all (λ x. and (recordTests κ (s .time) x)) (h .originator) a (s .records) (w .records .each) e) in
-      by-test (λ es. entriesOk es ≡ true) (inside (κ .settings .window) (a .current) (sequenceOf m)) (λ _. p .entries) (λ _. message-entries)
+      by-test (λ es. entriesOk es ≡ true) (new (κ .settings .window) (a .current) (sequenceOf m)) (λ _. message-entries) (λ _. p .entries)
 
   stamped : (x : Option TableRecord) → (maybe x (firstRecord κ m) (nextRecord κ m) .time ≡ r .time) × (maybe x (firstRecord κ m) (nextRecord κ m) .lastTtl ≡ h .ttl)
   unfolding firstRecord nextRecord
@@ -314,7 +314,8 @@ module _ (cells : ℕ) (s : TableState) (w : Wf s) (r : ReceiveArgs) (t : typed 
       → Held (λ e. and (recordTests κ (r .time) e)) (κ .settings .capacity) (put (h .originator) (countedRecord table s r h) (s .records))
   counted e =
       let a = countedRecord table s r h in
-      let x = counted-parts (found table s r h) refl in
+      let by = counts table s r h q e in
+      let x = counted-parts (found table s r h) refl (by .timely) in
       let y = stamped (found table s r h) in
       let b = keep (λ (l : ℕ × ℕ). eqb (a .best) (l .0)) (a .links) in
       let some-link : 1 ≤ length (a .links) = omega (arith, hasKey-length (a .best) (a .links) (x .1 .best), keep-length (λ (l : ℕ × ℕ). eqb (a .best) (l .0)) (a .links)) in
@@ -322,7 +323,7 @@ module _ (cells : ℕ) (s : TableState) (w : Wf s) (r : ReceiveArgs) (t : typed 
       (record-whole κ (r .time) (h .originator, a)
       (record {
         address = originator;
-        foreign = not-own;
+        foreign = ap not (by .other);
         current = lt-ltb (a .current) numbers (x .0);
         time = le-leb (a .time) (r .time) (omega (arith, y .0));
         ttl = ap isOctet (y .1) ∙ ttl;
@@ -334,11 +335,6 @@ module _ (cells : ℕ) (s : TableState) (w : Wf s) (r : ReceiveArgs) (t : typed 
         entries = counted-entries (found table s r h) refl;
       }))
       (record-room e)
-    where
-      not-own : not (isOwn κ (h .originator)) ≡ true
-      not-own =
-          let rest = not (q .unidirectional) && (q .bidirectional && not (q .duplicate)) in
-          and-left (not (q .ownOriginator)) rest (and-right (foreign table s r h q) (not (q .ownOriginator) && rest) e)
 
   received-wf : Wf (outcome table cells s (receive r) .state)
   unfolding outcome

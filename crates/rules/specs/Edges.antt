@@ -10,7 +10,7 @@ use Rattle.rules.specs.Settings.{newestWins, presentStays, MakeArgs, def
 use Rattle.rules.specs.Calls.{linkOf, Call, make, receive, burst, own, sweep, question, list, locate}
 use Rattle.rules.specs.Rules.{fresh}
 use Rattle.rules.specs.Table.{TableRecord, TableState, withEntries, table}
-use Rattle.rules.specs.Examples.{Case, passes, sends, checks, makes, plays, leaves, refuses, formed, address, interface, settingsBy, settings, config, stage, recordWith, packet, bundle, hearAll, hear, write, nowhere, via, heard, unheard, wrote, unwritten, total, refused, bundled, told, found, unfound, joined, Row, row}
+use Rattle.rules.specs.Examples.{Case, tests, passes, sends, checks, makes, plays, leaves, refuses, formed, address, interface, settingsBy, settings, config, stage, recordWith, packet, bundle, hearAll, hear, write, isNew, isInside, isStale, nowhere, via, heard, unheard, wrote, unwritten, total, refused, bundled, told, found, unfound, joined, Row, row}
 
 -- ---- packets, settings and tables
 
@@ -271,6 +271,37 @@ edges =
     -- an OGM that is not counted makes no record; an echo makes the link bidirectional
     ∷ play empty (hear 30 0 0 12 (packet 900 0 50 10) ∷ question 900 ∷ []) (heard 25 0 nowhere ∷ told nowhere ∷ [])
     ∷ play empty (hear 30 0 0 12 (packet 900 0 50 10) ∷ hear 30 0 0 12 echoed ∷ hear 30 0 0 12 (packet 900 0 50 10) ∷ question 900 ∷ []) (heard 25 0 nowhere ∷ heard 22 0 nowhere ∷ heard 26 0 (via 30 1) ∷ told (via 30 1) ∷ [])
+    -- new is 1 to 32,767 above current; half way is stale; below the window is stale; W is 1, 8 and 64; across 0
+    ∷ row (tests 8 10 11) isNew
+    ∷ row (tests 8 10 32777) isNew
+    ∷ row (tests 8 10 32778) isStale
+    ∷ row (tests 8 10 32779) isStale
+    ∷ row (tests 8 10 10) isInside
+    ∷ row (tests 8 10 3) isInside
+    ∷ row (tests 1 10 10) isInside
+    ∷ row (tests 1 10 9) isStale
+    ∷ row (tests 64 10 65483) isInside
+    ∷ row (tests 64 10 65482) isStale
+    ∷ row (tests 8 65535 0) isNew
+    ∷ row (tests 8 40000 7231) isNew
+    ∷ row (tests 8 40000 7232) isStale
+    -- 27: a stale OGM is not counted, and neither current number, last TTL nor the record's time moves; the table's time does
+    ∷ play single (hear 20 0 9 12 (packet 900 0 49 2) ∷ sweep 8 ∷ hear 20 0 9 12 (packet 900 0 50 10) ∷ hear 20 0 9 12 (packet 900 0 50 3) ∷ question 900 ∷ []) (heard 27 0 (via 20 1) ∷ refused 3 ∷ heard 26 0 (via 20 1) ∷ heard 26 0 (via 20 2) ∷ told (via 20 2) ∷ [])
+    ∷ play single (hear 20 0 5 12 (packet 900 0 50 2) ∷ sweep 640001 ∷ []) (heard 27 0 (via 20 1) ∷ total 1 ∷ [])
+    -- half way it is stale, one nearer above it is new; it writes nothing
+    ∷ play single (hear 20 0 0 12 (packet 900 0 50 32778) ∷ hear 20 0 0 12 (packet 900 0 50 32777) ∷ hear 20 0 0 12 (packet 900 0 50 10) ∷ []) (heard 27 0 (via 20 1) ∷ heard 26 0 (via 20 1) ∷ heard 27 0 (via 20 1) ∷ [])
+    ∷ row (leaves single (receive (record { packet = packet 900 63 50 2; sender = 20; interface = 0; time = 0; output = replicate 13 9 }))) (replicate 13 9)
+    -- not passed on from the originator itself, with a neighbour row and without; nor by another link without one
+    ∷ play (stage (settings 8 32 64) (20 ∷ 900 ∷ []) ((900, one) ∷ [])) (hear 900 0 0 12 (packet 900 0 50 2) ∷ hear 900 0 0 12 (packet 900 0 50 11) ∷ []) (heard 27 0 (via 20 1) ∷ heard 26 0 (via 900 1) ∷ [])
+    ∷ play single (hear 900 0 0 12 (packet 900 0 50 2) ∷ hear 900 0 0 12 (packet 900 0 50 3) ∷ hear 50 0 0 12 (packet 900 0 50 2) ∷ []) (heard 27 0 (via 20 1) ∷ heard 26 0 (via 20 1) ∷ heard 27 0 (via 20 1) ∷ [])
+    -- after 20, 21 and 24
+    ∷ play single (hear (address 10 0 0 1) 0 0 12 (packet 900 0 50 2) ∷ hear (address 10 0 0 255) 0 0 12 (packet 900 0 50 2) ∷ hear 20 0 0 12 (packet 900 128 50 2) ∷ []) (heard 20 0 (via 20 1) ∷ heard 21 0 (via 20 1) ∷ heard 24 0 (via 20 1) ∷ [])
+    -- held originators only; so after a sweep the same number makes the record
+    ∷ play single (hear 20 0 0 12 (packet 901 0 50 2) ∷ hear 20 0 0 12 (packet 901 0 50 65530) ∷ []) (heard 26 0 (via 20 1) ∷ heard 27 0 (via 20 1) ∷ [])
+    ∷ play single (hear 20 0 0 12 (packet 900 0 50 2) ∷ sweep 640001 ∷ hear 20 0 640001 12 (packet 900 0 50 2) ∷ []) (heard 27 0 (via 20 1) ∷ total 1 ∷ heard 26 0 (via 20 1) ∷ [])
+    -- it never meets 11, and in a burst leaves the packet behind it its place
+    ∷ play (eight 20 (3 ∷ []) (9 ∷ 10 ∷ [])) (hear 28 0 0 12 (packet 900 0 50 2) ∷ []) (heard 27 0 (via 20 1) ∷ [])
+    ∷ row (leaves single (hearAll 0 12 2 ((20, packet 900 0 50 2) ∷ (20, eleven 132) ∷ []))) (joined (elevenPassed 132 ∷ heard 27 0 (via 20 1) ∷ heard 26 0 (via 20 2) ∷ []))
     -- an own packet drops the row at distance B; an echo before it resets the distance; another interface's packet drops none
     ∷ play aged (write 0 0 50 12 [] ∷ hear 20 0 0 12 (packet 900 0 50 10) ∷ []) (wrote 12 6 ∷ heard 25 0 nowhere ∷ [])
     ∷ play aged (hear 20 0 0 12 echoed ∷ write 0 0 50 12 [] ∷ hear 20 0 0 12 (packet 900 0 50 10) ∷ []) (heard 22 0 nowhere ∷ wrote 12 6 ∷ heard 26 0 (via 20 1) ∷ [])
@@ -308,10 +339,10 @@ edges =
     ∷ play (announcing []) (locate 0 ∷ []) (unfound ∷ [])
     ∷ play (announcing ((900, []) ∷ [])) (locate 0 ∷ []) (unfound ∷ [])
     ∷ play (announcing ((0, kept 0 0 ∷ []) ∷ [])) (locate 0 ∷ []) (found 0 0 0 ∷ [])
-    -- a new number's entries replace the list, also where it has none, or lies below the window; one inside the window, or not counted, leaves it
+    -- a new number's entries replace the list, also where it has none; one inside the window, not counted or stale leaves it
     ∷ play keeper (hear 20 0 0 17 (brings 11 entryEleven) ∷ inTen ∷ locate (address 11 1 2 3) ∷ []) (heard 26 0 (via 20 2) ∷ unfound ∷ found 900 (address 11 0 0 0) 8 ∷ [])
     ∷ play keeper (hear 20 0 0 12 (brings 11 []) ∷ inTen ∷ []) (heard 26 0 (via 20 2) ∷ unfound ∷ [])
-    ∷ play keeper (hear 20 0 0 17 (brings 2 entryEleven) ∷ inTen ∷ []) (heard 26 0 (via 20 1) ∷ unfound ∷ [])
+    ∷ play keeper (hear 20 0 0 17 (brings 2 entryEleven) ∷ inTen ∷ []) (heard 27 0 (via 20 1) ∷ found 900 (address 10 0 0 0) 8 ∷ [])
     ∷ play keeper (hear 20 0 0 17 (brings 3 entryEleven) ∷ inTen ∷ locate (address 11 1 2 3) ∷ []) (heard 26 0 (via 20 2) ∷ found 900 (address 10 0 0 0) 8 ∷ unfound ∷ [])
     ∷ play keeper (hear 30 0 0 17 (brings 10 entryEleven) ∷ hear 50 0 0 17 (brings 11 entryEleven) ∷ inTen ∷ []) (heard 26 0 (via 30 1) ∷ heard 25 0 (via 30 1) ∷ found 900 (address 10 0 0 0) 8 ∷ [])
     -- the other originators' lists stay; a sweep removes a record's with it
@@ -319,11 +350,12 @@ edges =
     (heard 26 0 (via 20 1) ∷ found 900 (address 10 0 0 0) 8 ∷ total 1 ∷ unfound ∷ found 901 (address 11 0 0 0) 8 ∷ [])
     -- 15: 16 and 17 entries, repeats among them, where the first message makes the record and where a number is new; it changes nothing
     ∷ play empty (hear 20 0 9 97 (brings 10 (repeated 17)) ∷ sweep 8 ∷ question 900 ∷ hear 20 0 9 92 (brings 10 (repeated 16)) ∷ []) (unheard 15 0 ∷ total 0 ∷ told nowhere ∷ heard 26 0 (via 20 1) ∷ [])
-    ∷ play keeper (hear 20 0 9 97 (brings 11 (repeated 17)) ∷ hear 20 0 9 97 (brings 2 (repeated 17)) ∷ sweep 8 ∷ question 900 ∷ inTen ∷ hear 20 0 9 92 (brings 11 (repeated 16)) ∷ []) (unheard 15 0 ∷ unheard 15 0 ∷ total 0 ∷ told (via 20 1) ∷ found 900 (address 10 0 0 0) 8 ∷ heard 26 0 (via 20 2) ∷ [])
+    ∷ play keeper (hear 20 0 9 97 (brings 11 (repeated 17)) ∷ hear 20 0 9 97 (brings 32777 (repeated 17)) ∷ sweep 8 ∷ question 900 ∷ inTen ∷ hear 20 0 9 92 (brings 11 (repeated 16)) ∷ []) (unheard 15 0 ∷ unheard 15 0 ∷ total 0 ∷ told (via 20 1) ∷ found 900 (address 10 0 0 0) 8 ∷ heard 26 0 (via 20 2) ∷ [])
     ∷ row (leaves empty (receive (record { packet = brings 10 (repeated 17); sender = 20; interface = 0; time = 0; output = replicate 97 9 }))) (replicate 97 9)
-    -- not where the list would stay: inside the window, a duplicate, no neighbour row, verdict 24
+    -- not where the list would stay: inside the window, a duplicate, no neighbour row, verdicts 24 and 27
     ∷ play keeper (hear 20 0 0 97 (brings 3 (repeated 17)) ∷ hear 20 0 0 97 (brings 10 (repeated 17)) ∷ inTen ∷ []) (heard 26 0 (via 20 2) ∷ heard 26 0 (via 20 2) ∷ found 900 (address 10 0 0 0) 8 ∷ [])
     ∷ play keeper (hear 50 0 0 97 (brings 11 (repeated 17)) ∷ hear 20 0 0 97 (packet 900 128 50 11 ++ repeated 17) ∷ hear 50 0 0 97 (packet 901 0 50 11 ++ repeated 17) ∷ []) (heard 25 0 (via 20 1) ∷ heard 24 0 (via 20 1) ∷ heard 25 0 nowhere ∷ [])
+    ∷ play keeper (hear 20 0 0 97 (brings 2 (repeated 17)) ∷ inTen ∷ []) (heard 27 0 (via 20 1) ∷ found 900 (address 10 0 0 0) 8 ∷ [])
     -- 10 and 11 before it
     ∷ play (held 1 10 20 ((20, 10 ∷ []) ∷ [])) (hear 20 0 0 97 (packet 901 0 50 11 ++ repeated 17) ∷ []) (unheard 10 0 ∷ [])
     ∷ play (eight 20 (3 ∷ []) (9 ∷ 10 ∷ [])) (hear 28 0 0 97 (brings 11 (repeated 17)) ∷ []) (unheard 11 0 ∷ [])

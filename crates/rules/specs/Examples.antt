@@ -6,7 +6,7 @@ use mathlib.Core.List.{List, [], _∷_, _++_, map}
 use lib.ListN.{length, replicate}
 use Rattle.lists.specs.Lists.{maybe, elem}
 use Rattle.lists.specs.Keyed.{lookup, tabulate}
-use Rattle.window.specs.Window.{distance, inside, count, word, marks}
+use Rattle.window.specs.Window.{distance, new, inside, stale, count, word, marks}
 use Rattle.wire.specs.Layout.{flagsAt, ttlAt}
 use Rattle.wire.specs.Packet.{octet, header, packetOf}
 use Rattle.wire.specs.Check.{packetCheck}
@@ -24,6 +24,8 @@ use Rattle.rules.specs.WellFormed.{wellFormed}
 pub data Case : Type 0 where
   -- does n lie inside the window? 1 or 0
   lies : (W current n : ℕ) → Case
+  -- is n new, is it inside, is it stale? 1 or 0 each
+  tests : (W current n : ℕ) → Case
   -- is n a duplicate on a link with these marks? 1 or 0
   again : (W current : ℕ) (marks : List ℕ) (n : ℕ) → Case
   -- a record whose links, by neighbour, have these marks; then n arrives through a neighbour that has a row:
@@ -160,6 +162,7 @@ played W n s (c ∷ cs) = answerShown (step W n s c .reply .answer) ++ played W 
 
 abbrev pub reply : Case → List ℕ
 reply (lies W c n) = flag (inside W c n)
+reply (tests W c n) = flag (new W c n) ++ (flag (inside W c n) ++ flag (stale W c n))
 reply (again W c ms n) = flag (table .duplicate (config (settings W 32 64)) (recordWith W c 20 0 ((20, ms) ∷ [])) (linkOf 20 0) n)
 reply (arrives t W c b ls a n) =
     let s = stage (settingsBy t W 32 64) (20 ∷ 30 ∷ 40 ∷ []) ((900, recordWith W c b 0 ls) ∷ []) in
@@ -181,6 +184,16 @@ reply (leaves s c) = lentShown (step table 0 s c .reply)
 reply (refuses c n p) = let x = refusal c (record { number = n; place = p }) in answerShown (x .answer) ++ lentShown x
 
 -- ---- answers that are due, every field as its number
+
+-- the sequence test's three
+abbrev pub isNew : List ℕ
+isNew = 1 ∷ 0 ∷ 0 ∷ []
+
+abbrev pub isInside : List ℕ
+isInside = 0 ∷ 1 ∷ 0 ∷ []
+
+abbrev pub isStale : List ℕ
+isStale = 0 ∷ 0 ∷ 1 ∷ []
 
 -- "no route", and the route through a neighbour of the first interface where W is 8
 abbrev pub nowhere : List ℕ
@@ -248,8 +261,9 @@ examples =
     -- P4
     ∷ row (arrives presentStays 8 10 20 ((20, 10 ∷ []) ∷ []) 20 17) (17 ∷ 20 ∷ 20 ∷ 2 ∷ 10 ∷ 17 ∷ [])
     ∷ row (arrives presentStays 8 10 20 ((20, 10 ∷ []) ∷ []) 20 18) (18 ∷ 20 ∷ 20 ∷ 1 ∷ 18 ∷ [])
-    -- P5
-    ∷ row (arrives presentStays 8 10 20 ((20, 10 ∷ []) ∷ []) 20 2) (2 ∷ 20 ∷ 20 ∷ 1 ∷ 2 ∷ [])
+    -- P5: 2 is stale, and changes nothing
+    ∷ row (tests 8 10 2) isStale
+    ∷ row (arrives presentStays 8 10 20 ((20, 10 ∷ []) ∷ []) 20 2) (10 ∷ 20 ∷ 20 ∷ 1 ∷ 10 ∷ [])
     -- P6
     ∷ row (again 1 10 (10 ∷ []) 10) (1 ∷ [])
     -- P7

@@ -17,7 +17,7 @@ use Rattle.wire.specs.Check.{given, firstOf, packetFault, writtenFault}
 use Rattle.wire.specs.PassOn.{flagsHere, flagsElsewhere, passedOn}
 use Rattle.rules.specs.Settings.{neighbourMost, linkMost, entryMost, ttlLeast, makeAllowed, isInUse, isOwn, isBroadcast}
 use Rattle.rules.specs.Calls.{received, ReceiveArgs, Call, make, receive, burst, own, sweep, question, list, locate, numberOf, isRefusal, isRuleRefusal, receivedAs, answeredWriting}
-use Rattle.rules.specs.Rules.{Reading, StateOf, OutcomeOf, linkBy, singleHop, message, isEcho, isDuplicate, isFresh, isBestBy, ownPacket, routeOf, linkRows, refuse, begin, burstFits, takeBurst, send, purge, answerBest, fillRows, entriesHeld, answerLocate, step}
+use Rattle.rules.specs.Rules.{Reading, StateOf, OutcomeOf, linkBy, singleHop, message, isEcho, isStale, isDuplicate, isFresh, isBestBy, ownPacket, routeOf, linkRows, refuse, begin, burstFits, takeBurst, send, purge, answerBest, fillRows, entriesHeld, answerLocate, step}
 use Rattle.rules.specs.Lookup.{serving}
 
 -- the first of a list whose fact holds, or another
@@ -35,6 +35,8 @@ pub record Questions : Type 0 where
   pub echo : Bool
   -- U is set
   pub unidirectional : Bool
+  -- the number is stale to the originator's record
+  pub stale : Bool
   pub bidirectional : Bool
   pub duplicate : Bool
   -- no duplicate, or with the record's last TTL
@@ -53,6 +55,7 @@ module _ (W : Reading) (s : StateOf W) (r : ReceiveArgs) (h : Header) where
         ownOriginator = isOwn (s .config) (h .originator);
         echo = isEcho (s .config) (s .sends) r h;
         unidirectional = isU (h .flags);
+        stale = isStale W (s .config) r h found;
         bidirectional = W .hasRow (s .config) (s .rows) (linkBy r);
         duplicate = isDuplicate W (s .config) r h found;
         fresh = isFresh W (s .config) r h found;
@@ -72,7 +75,7 @@ module _ (W : Reading) (s : StateOf W) (r : ReceiveArgs) (h : Header) where
 
     -- the packet would be counted
     abbrev pub wouldCount : Bool
-    wouldCount = foreign && (not (q .ownOriginator) && (not (q .unidirectional) && (q .bidirectional && not (q .duplicate))))
+    wouldCount = foreign && (not (q .ownOriginator) && (not (q .unidirectional) && (not (q .stale) && (q .bidirectional && not (q .duplicate)))))
 
     -- 9 arises only for a packet whose verdict would be 22; 10, 11 and 15 only for one that would be counted
     abbrev pub roomFacts : List (Option Fault)
@@ -108,6 +111,7 @@ module _ (W : Reading) (s : StateOf W) (r : ReceiveArgs) (h : Header) where
         ∷ (q .ownOriginator && q .echo, 22)
         ∷ (q .ownOriginator, 23)
         ∷ (q .unidirectional, 24)
+        ∷ (q .stale, 27)
         ∷ (wouldPass, 26)
         ∷ []
 

@@ -63,7 +63,9 @@ pub record Reading : Type 1 where
   pub next : Config → Message → Record → Record
   pub time : Record → ℕ
   pub lastTtl : Record → ℕ
-  -- the number is inside the window and already marked on this link
+  -- the number is stale: neither new nor inside the window
+  pub stale : Config → Record → (number : ℕ) → Bool
+  -- it is inside the window and already marked on this link
   pub duplicate : Config → Record → (link number : ℕ) → Bool
   -- the link that the best question answers
   pub best : Config → Record → ℕ
@@ -311,7 +313,7 @@ module _ (W : Reading) where
 
   -- ---- receiving (RULES 6)
 
-  -- verdicts 20 to 24: nothing is written; the route is what the best question would then answer for the packet's originator (RULES 6.8)
+  -- verdicts 20 to 24 and 27: nothing is written; the route is what the best question would then answer for the packet's originator (RULES 6.8)
   unfoldable pub verdict : ReceiveArgs → Header → ℕ → StateOf → OutcomeOf
   verdict r h v s = record { reply = answeredWriting (received (receivedAs v 0 0 (routeOf (s .config) (lookup (h .originator) (s .records))))) (r .output); state = s }
 
@@ -352,6 +354,10 @@ module _ (W : Reading) where
         state = withTime s (r .time);
       }
 
+  -- the OGM is stale, x being the originator's record: without one it is not (RULES 6.3)
+  abbrev pub isStale : Config → ReceiveArgs → Header → Option (W .Record) → Bool
+  isStale κ r h x = maybe x false (λ a. W .stale κ a (sequenceOf (message r h)))
+
   abbrev pub isDuplicate : Config → ReceiveArgs → Header → Option (W .Record) → Bool
   isDuplicate κ r h x = maybe x false (λ a. W .duplicate κ a (linkBy r) (sequenceOf (message r h)))
 
@@ -380,7 +386,8 @@ module _ (W : Reading) where
       (branch (isOwn (s .config) (h .originator))
       (branch (isEcho (s .config) (s .sends) r h) (takeEcho s r h) (verdict r h 23 (withTime s (r .time))))
       (branch (isU (h .flags)) (verdict r h 24 (withTime s (r .time)))
-      (decide s r h (W .hasRow (s .config) (s .rows) (linkBy r)) (lookup (h .originator) (s .records))))))
+      (branch (isStale (s .config) r h (lookup (h .originator) (s .records))) (verdict r h 27 (withTime s (r .time)))
+      (decide s r h (W .hasRow (s .config) (s .rows) (linkBy r)) (lookup (h .originator) (s .records)))))))
 
   -- a received packet: refused by its arguments, or judged
   abbrev pub receiveOn : StateOf → ReceiveArgs → OutcomeOf

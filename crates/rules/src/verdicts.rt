@@ -12,3 +12,5 @@ pub const UNIDIRECTIONAL: u64 = 24;
 pub const KEPT: u64 = 25;
 
 pub const PASSED_ON: u64 = 26;
+
+pub const STALE: u64 = 27;

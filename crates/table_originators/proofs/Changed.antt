@@ -15,10 +15,13 @@ use Rattle.cells.proofs.Lent.{part-is, part-length, tail-back}
 use Rattle.cells.proofs.Trips.{length-decoded}
 use Rattle.cells_moves.proofs.Moves.{put-done}
 use Rattle.cells.proofs.Search.{Among, among, apart, put-among, put-apart}
-use Rattle.rules.specs.Settings.{neighbourMost, recordCells}
+use Rattle.window.specs.declared.Position.{Position}
+use Rattle.window.specs.Window.{position}
+use Rattle.rules.specs.declared.Policy.{Policy}
+use Rattle.rules.specs.Settings.{Follows, neighbourMost, recordCells}
 use Rattle.rules.specs.Messages.{Message}
 use Rattle.rules.specs.Table.{TableRecord, TableState, nextRecord}
-use Rattle.table_record.specs.Record.{encodeRecord, decodeRecord}
+use Rattle.table_record.specs.Record.{currentAt, encodeRecord, decodeRecord}
 use Rattle.table_record.proofs.Rows.{length-record}
 use Rattle.table_layout.specs.Layout.{capacityAt, recordsAt, recordsFrom, recordPart}
 use Rattle.table_layout.specs.Cells.{headOf, interfaceArea, recordArea, encode, decode}
@@ -31,7 +34,7 @@ use Rattle.table_changes.proofs.Sent.{run-back}
 use Rattle.rules.proofs.WellFormed.{Wf, parts}
 use Rattle.count_in_record.specs.declared.Heard.{Heard}
 use Rattle.count_in_record.specs.Counting.{isTaken, Answers, HeardIn}
-use Rattle.table_originators.specs.Originators.{recordPlace, Stands, Missing, standingAt, countedAt, HeardAt}
+use Rattle.table_originators.specs.Originators.{recordPlace, Stands, Missing, standingAt, countedAt, LiesAt, HeardAt}
 
 abbrev Entry : Type 0
 Entry = ℕ × TableRecord
@@ -97,6 +100,12 @@ module _ (s : TableState) (few : length (s .records) ≤ s .config .settings .ca
       ∙ records-back s es (length (encode s) - recordsFrom) refl
 
 -- ---- the record of an originator, in a well-formed table's cells
+
+-- where a number lies beside the window of the record at place i, by its row as it is lent
+pub timely-in : (c : List ℕ) (i : ℕ) → recordPlace i + recordCells ≤ length c → {p : Policy} → Follows (decode c .config) p → (n : ℕ) {q : Position} → LiesAt c i n q
+    → q ≡ position (p .window) (getD (take (recordPlace i + recordCells - recordPlace i) (drop (recordPlace i) c)) currentAt 0) n
+unfolding decodeRecord
+timely-in c i h f n e = e ∙ (λ j. position (sym (f .window) j) (getD (sym (part-is c (recordPlace i) recordCells h) j) currentAt 0) n)
 
 module _ (c : List ℕ) (o i : ℕ) where
   abbrev records : List Entry

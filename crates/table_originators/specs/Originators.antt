@@ -10,6 +10,8 @@ use Rattle.cells.specs.Find.{IsAt, IsPlace, Halving}
 use Rattle.cells.specs.declared.Found.{Found}
 use Rattle.cells.specs.declared.Found.the-variants.{At, Place}
 use Rattle.cells.specs.declared.SearchResult.{SearchResult}
+use Rattle.window.specs.declared.Position.{Position}
+use Rattle.window.specs.Window.{position}
 use Rattle.rules.specs.Messages.{Message}
 use Rattle.rules.specs.declared.Route.{Route}
 use Rattle.rules.specs.Settings.{recordCells}
@@ -71,6 +73,10 @@ standingAt c i = decodeRecord (recordAt c i) .1
 
 abbrev pub countedAt : List ℕ → (i : ℕ) → Message → TableRecord
 countedAt c i m = nextRecord (decode c .config) m (standingAt c i)
+
+-- the number n lies so beside the window of the record at place i
+abbrev pub LiesAt : List ℕ → (i n : ℕ) → Position → Type 0
+LiesAt c i n q = q ≡ position (decode c .config .settings .window) (standingAt c i .current) n
 
 -- what is answered of a message to the record of o, and the cells d that it leaves: where it is taken, those of the table with the next record
 pub record HeardAt (c d : List ℕ) (o i : ℕ) (m : Message) (bidirectional : Bool) (r : Heard) : Type 0 where

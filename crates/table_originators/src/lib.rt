@@ -12,11 +12,15 @@ use table_layout::RECORDS;
 use table_layout::RECORDS_FROM;
 use table_layout::TIE;
 use table_layout::WINDOW;
+use table_record::CURRENT;
 use table_record::WIDTH;
+use window::Position;
+use window::sequence_test;
 ghost use mathlib.Core.Path.{_≡_};
-ghost use mathlib.Core.Bool.{true};
+ghost use mathlib.Core.Bool.{true, false};
 ghost use Prim.Native.Nat.{ℕ, _<_, _≤_};
 ghost use lib.ListN.{getD};
+ghost use Rattle.window.specs.Window.{isStale};
 ghost use Rattle.wire.specs.Check.{entries};
 ghost use Rattle.rules.specs.Settings.{Follows, Bounded, entryMost, isAddress};
 ghost use Rattle.rules.specs.Messages.{messageOf};
@@ -24,7 +28,7 @@ ghost use Rattle.rules.specs.Calls.{neighbourOf};
 ghost use Rattle.table_layout.specs.Layout.{capacityAt, recordsAt};
 ghost use Rattle.table_layout.specs.Cells.{decode};
 ghost use Rattle.table_layout.specs.Facts.{Knows, recordAt};
-ghost use Rattle.table_originators.specs.Originators.{Holds, Stands, Missing, RecordSought, HeardAt, Made};
+ghost use Rattle.table_originators.specs.Originators.{Holds, Stands, Missing, RecordSought, LiesAt, HeardAt, Made};
 
 // What counting is told of the table's settings.
 pub fn policy_of(cells: &[u64]) -> Policy
@@ -60,15 +64,31 @@ pub fn record_at(cells: &[u64], i: usize) -> &[u64]
     &cells[at..end]
 }
 
-// What a message does to the record at place i, and what is answered of it.
-pub fn hear_at(cells: &mut [u64], i: usize, m: Ogm, hna: &[u8], bidirectional: bool) -> Heard
-    requires { ⌜ Holds (now cells) i × (isAddress (neighbourOf (m .link)) ≡ true) ⌝ }
+// The sequence test of the record at place i.
+pub fn position_at(cells: &[u64], i: usize, n: u16) -> Position
+    requires { ⌜ Holds (now cells) i ⌝ }
+    ensures { λ r. ⌜ LiesAt (now (cells .entry)) i n r ⌝ }
+{
+    let row = record_at(cells, i);
+    sequence_test(cells[WINDOW], row[CURRENT] as u16, n)
+}
+
+// What a message whose number isn't stale, and lies so beside the window, does to the record at place i, and what is answered of it.
+pub fn hear_at(
+    cells: &mut [u64],
+    i: usize,
+    m: Ogm,
+    hna: &[u8],
+    bidirectional: bool,
+    position: Position,
+) -> Heard
+    requires { ⌜ Holds (now cells) i × (isAddress (neighbourOf (m .link)) ≡ true) × LiesAt (now cells) i (m .sequence) position × (isStale position ≡ false) ⌝ }
     ensures { λ r. ⌜ ((o : ℕ) → Stands (now (cells .entry)) o i → HeardAt (now (cells .entry)) (now (cells .exit)) o i (messageOf m (now (hna .entry))) bidirectional r) ⌝ }
 {
     let p = policy_of(cells);
     let at = RECORDS_FROM + i * WIDTH;
     let end = at + WIDTH;
-    hear(&mut cells[at..end], p, m, hna, bidirectional)
+    hear(&mut cells[at..end], p, m, hna, bidirectional, position)
 }
 
 // Puts the record that an originator's first counted message makes in at its place i, and answers its route. Only records that are held move, and the

@@ -20,6 +20,15 @@ pub distance-zero : (c : ℕ) → c < numbers → distance c 0 ≡ c
 unfolding distance
 distance-zero c h = omega arith
 
+-- a number that lies above another lies as much below it as is left of all numbers
+pub distance-round : (c n : ℕ) → c < numbers → n < numbers → 1 ≤ distance n c → distance c n + distance n c ≡ numbers
+unfolding distance
+distance-round c n hc hn h = omega arith
+
+pub distance-none : (c n : ℕ) → c < numbers → n < numbers → distance n c ≡ 0 → distance c n ≡ 0
+unfolding distance
+distance-none c n hc hn h = omega arith
+
 -- the number that lies as far below c as n does is n
 pub distance-back : (c n : ℕ) → c < numbers → n < numbers → distance c (distance c n) ≡ n
 unfolding distance

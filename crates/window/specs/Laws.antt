@@ -4,7 +4,17 @@ use mathlib.Core.Path.{_≡_}
 use mathlib.Core.Bool.{Bool, true, false, cond, _&&_, _||_}
 use lib.Dec.{ltb, leb, eqb}
 use lib.ListN.{length}
-use Rattle.window.specs.Window.{numbers, distance, inside, bit, marked, shift, mark, count, hasMark, tally, word, marks}
+use Rattle.window.specs.Window.{numbers, newMost, distance, new, inside, stale, bit, marked, shift, mark, count, hasMark, tally, word, marks}
+
+-- where a number lies, of a window of 1 to 32,768 numbers: each of the three is answered exactly where its own words hold, and exactly one of them is
+pub record Positions (W : ℕ) : Type 0 where
+  -- 1 to 32,767 above current
+  pub new-is : (c n : ℕ) → c < numbers → n < numbers → new W c n ≡ (leb 1 (distance n c) && leb (distance n c) newMost)
+  -- in the window
+  pub inside-is : (c n : ℕ) → inside W c n ≡ ltb (distance c n) W
+  -- W to 32,768 below current
+  pub stale-is : (c n : ℕ) → c < numbers → n < numbers → stale W c n ≡ (leb W (distance c n) && leb (distance c n) (newMost + 1))
+  pub one : (c n : ℕ) → cond (new W c n) 1 0 + cond (inside W c n) 1 0 + cond (stale W c n) 1 0 ≡ 1
 
 -- of a window of W numbers and the words of marks below 2 ^ W
 pub record Laws (W : ℕ) : Type 0 where

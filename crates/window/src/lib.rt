@@ -1,5 +1,6 @@
 // Sequence numbers modulo 65,536 and a link's window of marks.
 ghost use mathlib.Core.Path.{_≡_};
+ghost use mathlib.Core.Bool.{true, _&&_};
 ghost use Prim.Native.Nat.{_≤_, _<_, _^_};
 ghost use lib.Dec.{ltb};
 ghost use Rattle.window.specs.Window as W;
@@ -10,6 +11,16 @@ const WORD_BITS: u64 = 64;
 
 // How many sequence numbers there are.
 pub const NUMBERS: u64 = 65536;
+
+// How far below current the number half way round lies.
+const HALF_WAY: u64 = NUMBERS / 2;
+
+// Where a number lies beside a window.
+pub enum Position {
+    New,
+    Inside,
+    Stale,
+}
 
 // A link's marks: bit k of the word is the mark of the number k below current.
 pub struct Marks {
@@ -23,18 +34,56 @@ pub fn distance(current: u16, n: u16) -> u64
     (current as u64 + NUMBERS - n as u64) % NUMBERS
 }
 
-// Whether n is current or one of the w - 1 numbers below it.
-pub fn inside(w: u64, current: u16, n: u16) -> bool
-    ensures { λ r. ⌜ r ≡ W.inside w current n ⌝ }
+// The sequence test: where n lies beside the window of w numbers whose current number is given. A number more than half way below current lies less than
+// half way above it.
+pub fn sequence_test(w: u64, current: u16, n: u16) -> Position
+    ensures { λ r. ⌜ r ≡ W.position w current n ⌝ }
 {
-    distance(current, n) < w
+    let below = distance(current, n);
+    if below < w {
+        return Position::Inside;
+    }
+    if below <= HALF_WAY {
+        return Position::Stale;
+    }
+    Position::New
 }
 
-// The current number once n is counted.
-pub fn advance(w: u64, current: u16, n: u16) -> u16
-    ensures { λ r. ⌜ r ≡ W.advance w current n ⌝ }
+pub fn is_new(p: Position) -> bool
+    ensures { λ r. ⌜ r ≡ W.isNew p ⌝ }
 {
-    if inside(w, current, n) { current } else { n }
+    match p {
+        Position::New => true,
+        Position::Inside => false,
+        Position::Stale => false,
+    }
+}
+
+pub fn is_inside(p: Position) -> bool
+    ensures { λ r. ⌜ r ≡ W.isInside p ⌝ }
+{
+    match p {
+        Position::New => false,
+        Position::Inside => true,
+        Position::Stale => false,
+    }
+}
+
+pub fn is_stale(p: Position) -> bool
+    ensures { λ r. ⌜ r ≡ W.isStale p ⌝ }
+{
+    match p {
+        Position::New => false,
+        Position::Inside => false,
+        Position::Stale => true,
+    }
+}
+
+// The current number once n, which lies so beside the window, is counted.
+pub fn advance(p: Position, current: u16, n: u16) -> u16
+    ensures { λ r. ⌜ r ≡ W.currentBy p current n ⌝ }
+{
+    if is_new(p) { n } else { current }
 }
 
 // The marks of a link by which nothing was counted.
@@ -50,6 +99,17 @@ pub fn is_marked(m: Marks, k: u64) -> bool
     ensures { λ r. ⌜ r ≡ W.bit (wordOf m) k ⌝ }
 {
     (m.word >> k) % 2 == 1
+}
+
+// Whether n, which lies so beside the window, is inside and already marked.
+pub fn is_duplicate(p: Position, current: u16, n: u16, m: Marks) -> bool
+    requires { ⌜ (W.isInside p ≡ true → W.distance current n < wordBits) ⌝ }
+    ensures { λ r. ⌜ r ≡ (W.isInside p && W.marked (wordOf m) current n) ⌝ }
+{
+    if !is_inside(p) {
+        return false;
+    }
+    is_marked(m, distance(current, n))
 }
 
 // The marks with that of the number k below current set.

@@ -168,7 +168,7 @@ impl Generator<'_> {
         let huge = self.random.pick(&[1 << 32, 1 << 63, u64::MAX]);
         match self.random.below(10) {
             0 => settings.version = self.random.pick(&[256, 260, huge]),
-            1 => settings.window = self.random.pick(&[0, 65, 256 + 8, huge + 8]),
+            1 => settings.window = self.random.pick(&[0, 65, 256 + 8, huge | 8]),
             2 => settings.timeout = self.random.pick(&[0, 1001, huge]),
             3 => settings.purge = self.random.pick(&[0, 1 << 32, (1 << 32) + 1, u64::MAX]),
             4 => settings.capacity = self.random.pick(&[0, 257, huge]),

@@ -6,7 +6,7 @@ use crate::book::{Receive, ENTRIES_MOST, INTERFACES_MOST, LINKS_MOST};
 use crate::packet::{self, Header, DIRECT, HEADER_OCTETS, PACKET_MOST, UNIDIRECTIONAL};
 use crate::play;
 use crate::script::OUTPUT_MOST;
-use crate::words::{self, Link};
+use crate::words::{self, Link, NEW_MOST};
 
 impl Generator<'_> {
     /// A time that is not before the table's, mostly close.
@@ -65,12 +65,10 @@ impl Generator<'_> {
 
     /// A sequence number at an edge of the originator's window.
     fn number(&mut self, originator: u32) -> u16 {
-        let window = self.settings().window;
-        let list = self.book().list_of(originator);
-        let Some(current) = words::current(list, window) else {
-            let any = self.random.next() as u16;
-            return self.random.pick(&[0, 1, 65_535, 65_534, any]);
+        let Some(current) = self.book().current_of(originator) else {
+            return self.first_number(originator);
         };
+        let window = self.settings().window;
         let width = window as u16;
         let within = self.random.below(window) as u16;
         if self.stage.kind == Kind::Links && self.random.chance(400) {
@@ -90,20 +88,40 @@ impl Generator<'_> {
         }
         match self.random.below(100) {
             0..30 => current.wrapping_add(1),
-            30..45 => current,
-            45..68 => current.wrapping_sub(within),
-            68..73 => current.wrapping_add(2),
-            73..79 => current.wrapping_sub(width - 1),
-            79..83 => current.wrapping_sub(width),
-            83..84 => current.wrapping_sub(width + 1),
+            30..44 => current,
+            44..65 => current.wrapping_sub(within),
+            65..70 => current.wrapping_add(2),
+            70..76 => current.wrapping_sub(width - 1),
+            76..84 => self.stale_number(current),
             84..88 => current.wrapping_add(width - 1),
             88..91 => current.wrapping_add(width),
             91..93 => current.wrapping_add(width + 1),
-            93..94 => current.wrapping_add(32_768),
-            94..95 => self.random.next() as u16,
-            95..96 => 0,
-            96..97 => 65_535,
+            93..95 => current.wrapping_add(NEW_MOST),
+            95 => self.random.next() as u16,
+            96 => self.random.pick(&[0, u16::MAX]),
             _ => current.wrapping_sub(1),
+        }
+    }
+
+    /// A number that is stale, mostly at one end of those that are.
+    fn stale_number(&mut self, current: u16) -> u16 {
+        let first = self.settings().window as u16;
+        let half = NEW_MOST + 1;
+        let any = first + self.random.below(u64::from(half - first) + 1) as u16;
+        let below = self
+            .random
+            .pick(&[first, first, first + 1, any, NEW_MOST, half, half]);
+        current.wrapping_sub(below)
+    }
+
+    /// A number for an originator without a record: often one that is stale to the record that it
+    /// had before, as those of a restarted node are.
+    fn first_number(&mut self, originator: u32) -> u16 {
+        let removed = self.book().removed.get(&originator).copied();
+        let any = self.random.next() as u16;
+        match removed.filter(|_| self.random.chance(500)) {
+            Some(current) => self.stale_number(current),
+            None => self.random.pick(&[0, 1, 65_535, 65_534, any]),
         }
     }
 
@@ -366,12 +384,11 @@ impl Generator<'_> {
     pub(super) fn leave_best_behind(&mut self) {
         let originator = self.originator();
         let window = self.settings().window;
-        let list = self.book().list_of(originator);
         let best = self.book().words_of(originator).map(|words| words.best);
-        let Some((best, current)) = best.zip(words::current(list, window)) else {
+        let Some((best, current)) = best.zip(self.book().current_of(originator)) else {
             return self.message_by_row();
         };
-        let marks = words::marks(list, window);
+        let marks = words::marks(self.book().list_of(originator), window);
         let behind = marks
             .iter()
             .filter(|(link, _)| *link == best)
@@ -389,8 +406,8 @@ impl Generator<'_> {
         self.receive_packet(link, packet);
     }
 
-    /// A new number by a ninth link, with more entries than a record keeps: where the eight links
-    /// keep a mark, both are too many.
+    /// A number by a ninth link, with more entries than a record keeps: where it is new and the
+    /// eight links keep a mark, both are too many; where it is stale, neither matters.
     pub(super) fn one_link_more(&mut self) {
         let held: Vec<u32> = self.book().lists.keys().copied().collect();
         let ninths: Vec<(u32, Link)> = held
@@ -400,10 +417,13 @@ impl Generator<'_> {
         let Some((originator, link)) = self.random.pick_any(&ninths) else {
             return self.message_by_row();
         };
-        let window = self.settings().window;
-        let current = words::current(self.book().list_of(originator), window).unwrap_or(0);
+        let current = self.book().current_of(originator).unwrap_or(0);
+        let number = match self.random.below(4) {
+            0 => self.stale_number(current),
+            _ => current.wrapping_add(1),
+        };
         let hna = self.hna_of(ENTRIES_MOST as u64 + 1);
-        let packet = self.packet_with(&hna, 0, 50, current.wrapping_add(1), originator);
+        let packet = self.packet_with(&hna, 0, 50, number, originator);
         self.receive_packet(link, packet);
     }
 
@@ -459,9 +479,8 @@ impl Generator<'_> {
     /// A number inside the originator's window that is not marked on a link.
     fn unmarked(&mut self, originator: u32, link: Link) -> Option<u16> {
         let window = self.settings().window;
-        let list = self.book().list_of(originator);
-        let current = words::current(list, window)?;
-        let marks = words::marks(list, window);
+        let current = self.book().current_of(originator)?;
+        let marks = words::marks(self.book().list_of(originator), window);
         let numbers: Vec<u16> = (0..window as u16)
             .map(|below| current.wrapping_sub(below))
             .filter(|number| !marks.contains(&(link, *number)))

@@ -8,14 +8,14 @@ use crate::packet::Entry;
 
 mod host_bits;
 
-type Announced = (u32, u8);
+pub(super) type Announced = (u32, u8);
 
 /// Networks that lie in each other, and an address in all of them.
-const YARD: Announced = (0x0a00_0000, 8);
-const HALL: Announced = (0x0a01_0000, 16);
+pub(super) const YARD: Announced = (0x0a00_0000, 8);
+pub(super) const HALL: Announced = (0x0a01_0000, 16);
 const ROOM: Announced = (0x0a01_0200, 24);
 const PRINTER: u32 = 0x0a01_0203;
-const FARTHER: u32 = 200;
+pub(super) const FARTHER: u32 = 200;
 const NOT_FOUND: &str = "lookup 0 0 0 0 0";
 const TOO_MANY: &str = "receive 15 0 0 0 0 0 0 -";
 
@@ -25,7 +25,7 @@ fn hna(entries: &[Announced]) -> String {
 }
 
 /// A message of an originator by a link, at time 0.
-fn message(link: Link, originator: u32, number: u16, entries: &[Announced]) -> String {
+pub(super) fn message(link: Link, originator: u32, number: u16, entries: &[Announced]) -> String {
     arrival(
         link.neighbour,
         0,
@@ -34,12 +34,12 @@ fn message(link: Link, originator: u32, number: u16, entries: &[Announced]) -> S
     )
 }
 
-fn arrival(sender: u32, time: u64, header: String, entries: &[Announced]) -> String {
+pub(super) fn arrival(sender: u32, time: u64, header: String, entries: &[Announced]) -> String {
     format!("receive 0 {sender} {time} 2000 {header}{}", hna(entries))
 }
 
 /// A message of FAR by A.
-fn by_far(number: u16, entries: &[Announced]) -> String {
+pub(super) fn by_far(number: u16, entries: &[Announced]) -> String {
     message(A, FAR, number, entries)
 }
 
@@ -49,12 +49,12 @@ fn networks(many: usize) -> Vec<Announced> {
     (0..many).map(network).collect()
 }
 
-fn too_many() -> Vec<Announced> {
+pub(super) fn too_many() -> Vec<Announced> {
     networks(ENTRIES_MOST + 1)
 }
 
 /// A table with rows for A, B and C after these lines.
-fn after(lines: &[String]) -> Vec<String> {
+pub(super) fn after(lines: &[String]) -> Vec<String> {
     [with_rows(), lines.to_vec()].concat()
 }
 
@@ -70,7 +70,7 @@ fn found(originator: u32, (network, mask): Announced) -> String {
 }
 
 /// The number that a line's call answers after these lines.
-fn number_after(lines: &[String], line: String) -> u64 {
+pub(super) fn number_after(lines: &[String], line: String) -> u64 {
     let answer = last(&[after(lines), vec![line]].concat());
     let number = answer.split(' ').nth(1).expect("a number");
     number.parse().expect("a number")
@@ -90,7 +90,7 @@ fn cell((network, mask): Announced) -> u64 {
 }
 
 /// Whether the first record holds exactly these entries after these lines.
-fn holds(lines: &[String], entries: &[Announced]) -> bool {
+pub(super) fn holds(lines: &[String], entries: &[Announced]) -> bool {
     let expected: Vec<u64> = entries.iter().copied().map(cell).collect();
     held_after(&after(lines)) == (entries.len() as u64, expected)
 }
@@ -124,11 +124,11 @@ fn the_first_counted_message_makes_the_list() {
 
 #[test]
 fn a_new_number_replaces_the_list() {
-    // Above, below the window (P5), and over the wrap.
-    for number in [301, 308, 292, 65535, 0] {
-        let lines = [by_far(300, &[HALL, ROOM]), by_far(number, &[YARD])];
+    // By one, by the window, to the farthest one, and over the wrap.
+    for (current, number) in [(300, 301), (300, 308), (300, 33067), (65535, 0)] {
+        let lines = [by_far(current, &[HALL, ROOM]), by_far(number, &[YARD])];
         assert!(holds(&lines, &[YARD]), "{number}");
-        let lines = [by_far(300, &[HALL, ROOM]), by_far(number, &[])];
+        let lines = [by_far(current, &[HALL, ROOM]), by_far(number, &[])];
         assert!(holds(&lines, &[]), "{number}");
         assert_eq!(looked_up(&lines, PRINTER), NOT_FOUND, "{number}");
     }
@@ -151,7 +151,7 @@ fn with_a_window_of_one_the_current_number_leaves_the_list() {
     let mut lines = with_rows();
     lines[1] = table(1, 32, 7).remove(1);
     lines.push(by_far(300, &[HALL]));
-    for message in [message(B, FAR, 300, &[YARD]), by_far(299, &[ROOM])] {
+    for message in [message(B, FAR, 300, &[YARD]), by_far(301, &[ROOM])] {
         lines.push(message);
     }
     assert_eq!(held_after(&lines[..lines.len() - 1]).1, [cell(HALL)]);
@@ -161,8 +161,9 @@ fn with_a_window_of_one_the_current_number_leaves_the_list() {
 #[test]
 fn a_message_that_is_not_counted_leaves_the_list() {
     let others = [
-        // A duplicate, one without a neighbour row, and verdicts 20, 21 and 24.
+        // A duplicate, a stale one, one without a neighbour row, and verdicts 20, 21 and 24.
         (by_far(300, &[YARD]), 26),
+        (by_far(292, &[YARD]), 27),
         (message(by(13), FAR, 301, &[YARD]), 25),
         (message(by(FAR), FAR, 301, &[YARD]), 26),
         (message(by(1), FAR, 301, &[YARD]), 20),
@@ -206,7 +207,7 @@ fn the_seventeenth_entry_is_refused_where_it_would_replace_the_list() {
         let entries = networks(many);
         let held = [by_far(300, &[HALL])];
         assert_eq!(last(&after(&[by_far(300, &entries)])), TOO_MANY);
-        for number in [301, 308, 292] {
+        for number in [301, 308, 33067] {
             assert_eq!(number_after(&held, by_far(number, &entries)), 15, "{many}");
             let by_b = message(B, FAR, number, &entries);
             assert_eq!(number_after(&held, by_b), 15, "{many}");
@@ -243,6 +244,7 @@ fn the_seventeenth_entry_of_a_message_not_counted_is_no_matter() {
         (arrival(13, 0, octets(64, 49, 7, 1), &entries), 22),
         (arrival(13, 0, octets(64, 49, 6, 1), &entries), 23),
         (arrival(10, 0, far(128, 301), &entries), 24),
+        (arrival(10, 0, far(0, 292), &entries), 27),
     ];
     for (line, verdict) in cases {
         let lines = [by_far(300, &[HALL])];
@@ -277,7 +279,7 @@ fn refusal_15_changes_nothing() {
 }
 
 /// As many originators as the table has room for.
-fn originators() -> Vec<String> {
+pub(super) fn originators() -> Vec<String> {
     (0..CAPACITY as u32)
         .map(|place| message(A, FARTHER + place, 300, &[]))
         .collect()
@@ -295,7 +297,7 @@ fn refusal_10_comes_before_15() {
 }
 
 /// Number 300 of FAR by eight links, 20 to 27; 28 has a row, too.
-fn eight_links() -> Vec<String> {
+pub(super) fn eight_links() -> Vec<String> {
     let echoes = (20..29).map(|sender| echo(sender, 7));
     let messages = (20..28).map(|sender| message(by(sender), FAR, 300, &[HALL]));
     echoes.chain(messages).collect()
@@ -589,11 +591,12 @@ fn what_too_many_entries_met_is_counted() {
     }
 }
 
-/// The entries as each message settles them: replaced where it is first or outside.
+/// The entries as each message settles them: replaced where it is first or new.
 fn entries_step_by_step(list: &[Counted], window: u64) -> Vec<Entry> {
     let (mut current, mut entries) = (None, Vec::new());
     for message in list {
-        if !current.is_some_and(|current| words::inside(current, message.number, window)) {
+        let age = current.map(|current| words::age(current, message.number, window));
+        if matches!(age, None | Some(Age::New)) {
             current = Some(message.number);
             entries = message.entries.clone();
         }

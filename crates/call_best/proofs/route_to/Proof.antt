@@ -1,12 +1,8 @@
 -- `call_best::route_to` meets its contract: the route of the record that is found, or none. Assumes nothing.
 use borrow.Author.Needs.{needs}
-use mathlib.Core.Path.{refl, sym, ap, _∙_, subst}
-use mathlib.Core.List.{List}
-use mathlib.Core.Option.{some}
-use Prim.Native.Nat.{ℕ}
+use mathlib.Core.Path.{sym, ap, _∙_, subst}
 use Rattle.rules.specs.Rules.{routeOf}
 use Rattle.rules.specs.Table.{table}
-use Rattle.table_record.specs.Record.{decodeRecord, Held}
 use Rattle.table_layout.specs.Cells.{decode}
 use Rattle.table_originators.specs.Originators.{Stands, RecordFound}
 use Rattle.call_best.proofs.route_to.Statement.{statement}
@@ -21,16 +17,11 @@ stands c =
     let a = from-found c .args in
     subst (RecordFound (a .cells .now) (a .originator)) (c .f .given .1) (c .before .before .find-record .ensures .found)
 
-route-of-requires : tie.Need-route-of-requires
-route-of-requires c κs = subst Held (sym (c .before .record-at .ensures)) (stands (c .before .before .before) .holds .row)
-
 returns : tie.Need-returns
-unfolding decode
 returns c =
-    let r = c .before .before in
-    let f = r .before .before in
+    let f = c .before .before in
     let κ = decode (from-found f .args .cells .now) .config in
-    c .route-of .ensures κ refl ∙ ap (routeOf table κ) (ap (λ (row : List ℕ). some (decodeRecord row .1)) (r .record-at .ensures) ∙ sym (stands f .found))
+    c .route-at .ensures ∙ ap (routeOf table κ) (sym (stands f .found))
 
 returns-2 : tie.Need-returns-2
 returns-2 c =
@@ -40,6 +31,4 @@ returns-2 c =
     c .no-route .ensures ∙ ap (routeOf table (decode (a .cells .now) .config)) (sym (m .none))
 
 pub route-to-spec : {M : Type 1} → statement M
-route-to-spec =
-    tie.close
-    (tie.spec (λ c κs. search needs) (λ c. search needs) (λ c κs. stands (c .before) .holds) (λ c. search needs) (λ c. search needs) route-of-requires (λ c. search needs) (λ c κs. search needs) returns returns-2)
+route-to-spec = tie.close (tie.spec (λ c κs. search needs) (λ c. search needs) (λ c κs. stands (c .before) .holds) (λ c. search needs) (λ c κs. search needs) returns returns-2)

@@ -1,7 +1,7 @@
 -- The links are recounted on a scratch; the row is written where they and the entries fit, and is then the next record's.
 use borrow.Author.Needs.{needs}
 use mathlib.Core.Path.{_≡_, refl, sym, ap, _∙_, subst}
-use mathlib.Core.Bool.{true, not}
+use mathlib.Core.Bool.{true}
 use mathlib.Core.List.{List}
 use Prim.Native.Nat.{ℕ, _*_, _≤_, _<_}
 use native.Mathlib.Omega.{arith}
@@ -10,7 +10,7 @@ use borrow.Author.Tests.{ltb-true, ltb-false}
 use lib.ListN.{length, take, getD}
 use lib.Seq.{length-take-le}
 use Rattle.lists.proofs.Tests.{and-left, and-right, and-open}
-use Rattle.window.specs.Window.{numbers, inside}
+use Rattle.window.specs.Window.{numbers, new, advance}
 use Rattle.wire.proofs.Entries.{length-entries}
 use Rattle.rules.specs.Settings.{linkMost, entryMost, linkCells}
 use Rattle.rules.specs.Messages.{Message, messageOf}
@@ -18,7 +18,7 @@ use Rattle.table_record.specs.Links.{linksFrom}
 use Rattle.table_record.specs.Record.{currentAt, linksAt}
 use Rattle.table_record.proofs.Rows.{part-size}
 use Rattle.count_links.specs.Links.{SpotOf}
-use Rattle.count_in_record.proofs.Rows.{next-near, counted-11, counted-15, counted-now}
+use Rattle.count_in_record.proofs.Rows.{advance-is, new-is, next-near, counted-11, counted-15, counted-now}
 use Rattle.count_in_record.proofs.count_message.Statement.{statement}
 use Rattle.count_in_record.proofs.count_message.Tie as tie
 
@@ -50,13 +50,19 @@ said s = messageOf (s .args .m) (s .args .hna .now)
 small : (s : tie.Start) → s .args .m .sequence < numbers
 small s = omega arith
 
+-- the current number that it leaves
+current-is : (c : tie.After-advance) → let a = from-advance c .args in c .advance .result ≡ advance (a .p .window) (getD (a .row .now) currentAt 0) (a .m .sequence)
+current-is c =
+    let s = from-advance c in
+    advance-is (s .args .p .window) (getD (s .args .row .now) currentAt 0) (s .args .m .sequence) (s .pre .3 .lies) (c .advance .ensures)
+
 recount-requires : tie.Need-recount-requires
 recount-requires c κs =
     let next = from-links c in
     let s = from-advance next in
     let a = s .args in
     let row = a .row .now in
-    let h = next-near (a .p .window) (getD row currentAt 0) (a .m .sequence) (omega arith) (next .advance .ensures) (c .before .before .before .distance2 .ensures) in
+    let h = next-near (a .p .window) (getD row currentAt 0) (a .m .sequence) (s .pre .3 .lies) (s .pre .3 .timely) (omega arith) (current-is next) (c .before .before .before .distance2 .ensures) in
     let size = ap length (c .links-part .ensures) in (
       (omega (arith, size, part-size row (s .pre .0 .size)), s .pre .0 .few, s .pre .1, omega arith),
       (record { size = refl; cells = refl }, subst (λ (part : List ℕ). SpotOf (linksFrom (getD row linksAt 0) part) (a .m .link) (a .spot)) (sym (c .links-part .ensures)) (s .pre .2)),
@@ -68,12 +74,14 @@ returns c κ f =
     let links = from-out out in
     let next = from-links links in
     let s = entry out in
-    counted-11 κ (s .args .row .now) (said s) f (small s) (next .advance .ensures) (links .before .before .before .before .distance .ensures) (links .before .before .before .distance2 .ensures) (links .links-part .ensures)
+    counted-11 κ (s .args .row .now) (said s) f (small s) (current-is next) (links .before .before .before .before .distance .ensures) (links .before .before .before .distance2 .ensures) (links .links-part .ensures)
     (out .before .recount .ensures) (c .before .if1 .taken) (c .refusal .ensures)
 
 -- whether the entries are replaced, and whether they are too many
-replaced-is : (c : tie.After-inside) → let a = entry (c .before .before) .args in not (c .inside .result) ≡ not (inside (a .p .window) (getD (a .row .now) currentAt 0) (a .m .sequence))
-replaced-is c = ap not (c .inside .ensures)
+replaced-is : (c : tie.After-is-new) → let a = entry (c .before .before) .args in c .is-new .result ≡ new (a .p .window) (getD (a .row .now) currentAt 0) (a .m .sequence)
+replaced-is c =
+    let s = entry (c .before .before) in
+    new-is (s .args .p .window) (getD (s .args .row .now) currentAt 0) (s .args .m .sequence) (s .pre .3 .lies) (c .is-new .ensures)
 
 many-is : (c : tie.After-too-many) → let s = entry (from-many c) in c .too-many .result ≡ ltb entryMost (length (said s .entries))
 many-is c = let s = entry (from-many c) in c .too-many .ensures ∙ ap (ltb entryMost) (sym (length-entries (s .args .hna .now)))
@@ -86,14 +94,14 @@ returns-2 c κ f =
     let links = from-out out in
     let next = from-links links in
     let s = entry out in
-    let new = not (many .before .inside .result) in
-    counted-15 κ (s .args .row .now) (said s) f (small s) (next .advance .ensures) (links .before .before .before .before .distance .ensures) (links .before .before .before .distance2 .ensures) (links .links-part .ensures)
-    (out .before .recount .ensures) (many .before .before .if1 .left) (replaced-is (many .before)) (and-left new (many .too-many .result) (t .if2 .taken))
-    (ltb-true entryMost (length (said s .entries)) (sym (many-is many) ∙ and-right new (many .too-many .result) (t .if2 .taken))) (c .refusal2 .ensures)
+    let replaced = many .before .is-new .result in
+    counted-15 κ (s .args .row .now) (said s) f (small s) (current-is next) (links .before .before .before .before .distance .ensures) (links .before .before .before .distance2 .ensures) (links .links-part .ensures)
+    (out .before .recount .ensures) (many .before .before .if1 .left) (replaced-is (many .before)) (and-left replaced (many .too-many .result) (t .if2 .taken))
+    (ltb-true entryMost (length (said s .entries)) (sym (many-is many) ∙ and-right replaced (many .too-many .result) (t .if2 .taken))) (c .refusal2 .ensures)
 
 -- entries that replace others are not too many
-few : (c : tie.Else2) → let m = c .before in not (m .before .inside .result) ≡ true → length (said (entry (from-many m)) .entries) ≤ entryMost
-few c t = let m = c .before in ltb-false entryMost (length (said (entry (from-many m)) .entries)) (sym (many-is m) ∙ and-open (not (m .before .inside .result)) (m .too-many .result) (c .if2 .left) t)
+few : (c : tie.Else2) → let m = c .before in m .before .is-new .result ≡ true → length (said (entry (from-many m)) .entries) ≤ entryMost
+few c t = let m = c .before in ltb-false entryMost (length (said (entry (from-many m)) .entries)) (sym (many-is m) ∙ and-open (m .before .is-new .result) (m .too-many .result) (c .if2 .left) t)
 
 -- the links, as they are lent to be written
 abbrev end : tie.After-out2 → ℕ
@@ -121,7 +129,7 @@ returns-3 c κ f =
     let links = from-out out in
     let next = from-links links in
     let s = entry out in
-    counted-now κ (s .args .row .now) (said s) f (small s) (next .advance .ensures) (links .before .before .before .before .distance .ensures) (links .before .before .before .distance2 .ensures) (links .links-part .ensures)
+    counted-now κ (s .args .row .now) (said s) f (small s) (current-is next) (links .before .before .before .before .distance .ensures) (links .before .before .before .distance2 .ensures) (links .links-part .ensures)
     (out .before .recount .ensures) (room many) (replaced-is (many .before)) (s .pre .0) (few (stored .before .before .before .before)) _ (out .before .recount .kept .0) (sym (length-entries (s .args .hna .now))) (stored .store-message .ensures)
 
 pub count-message-spec : {M : Type 1} → statement M

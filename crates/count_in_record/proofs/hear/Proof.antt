@@ -1,21 +1,24 @@
 -- The link is located once: its marks tell a duplicate, and its spot is where the message is counted. What is answered is by the row that is left.
 use borrow.Author.Needs.{needs}
-use mathlib.Core.Path.{_≡_, sym, subst}
+use mathlib.Core.Path.{_≡_, sym, _∙_, subst}
 use mathlib.Core.List.{List}
 use Prim.Native.Nat.{ℕ, _<_}
 use native.Mathlib.Omega.{arith}
 use lib.ListN.{getD}
 use borrow.Author.Tests.{not-true, not-false}
 use Rattle.cells.specs.Find.{Sorted}
+use Rattle.window.specs.Window.{numbers}
+use Rattle.window.proofs.Positions.{inside-lt}
 use Rattle.rules.specs.Settings.{Config, Follows, linkCells, octets}
 use Rattle.rules.specs.Messages.{Message, messageOf}
 use Rattle.table_record.specs.Links.{linksFrom}
-use Rattle.table_record.specs.Record.{linksAt, linksOf}
+use Rattle.table_record.specs.Record.{currentAt, linksAt, linksOf, decodeRecord}
 use Rattle.table_record.proofs.Routes.{held-sorted}
 use Rattle.count_links.specs.Links.{SpotOf}
 use Rattle.count_in_record.specs.declared.Counting.{Counting}
 use Rattle.count_in_record.specs.declared.Counting.the-variants.{Done}
-use Rattle.count_in_record.specs.Counting.{CountedIn}
+use Rattle.count_in_record.specs.Counting.{CountedIn, isRepeated}
+use Rattle.count_in_record.proofs.Rows.{inside-is, marked-by}
 use Rattle.count_in_record.proofs.Left.{some-config, some-follows, counted-held}
 use Rattle.count_in_record.proofs.Hearing.{heard-kept, counted-marks, heard-counted, heard-refused}
 use Rattle.count_in_record.proofs.hear.Statement.{statement}
@@ -52,6 +55,10 @@ said s = messageOf (s .args .m) (s .args .hna .now)
 small : (s : tie.Start) → s .args .m .ttl < octets
 small s = omega arith
 
+-- the number has two octets
+two-octets : (s : tie.Start) → s .args .m .sequence < numbers
+two-octets s = omega arith
+
 -- where the message's link stands among those of the row
 spot-is : (c : tie.After-locate) → let a = from-links (c .before) .args in SpotOf (linksOf (a .row .now)) (a .m .link) (c .locate .result)
 spot-is c =
@@ -63,10 +70,22 @@ locate-requires c κs =
     let s = from-links c in
     subst (Sorted linkCells (getD (s .args .row .now) linksAt 0)) (sym (c .links-part .ensures)) (held-sorted (s .args .row .now) (s .pre .0))
 
+-- a number inside the window has a place in the word of marks
 is-duplicate-requires : tie.Need-is-duplicate-requires
-is-duplicate-requires c κs =
-    let located = c .before .before in
-    let s = from-links (located .before) in (s .pre .0, s .pre .1, spot-is located .marks)
+is-duplicate-requires c κs i =
+    let s = from-links (c .before .before .before) in
+    let a = s .args in
+    let w = a .p .window in
+    let current = getD (a .row .now) currentAt 0 in
+    let h = inside-lt w current (a .m .sequence) (inside-is w current (a .m .sequence) (s .pre .3 .lies) ∙ i) in
+    omega arith
+
+-- it is a duplicate or not, as the rules say it
+duplicate-is : (c : tie.After-is-duplicate) (κ : Config) → Follows κ (entry c .args .p) → c .is-duplicate .result ≡ isRepeated κ (said (entry c)) (decodeRecord (entry c .args .row .now) .1)
+duplicate-is c κ f =
+    let s = entry c in
+    let a = s .args in
+    marked-by κ (a .row .now) (a .m .link) (a .m .sequence) f (two-octets s) (s .pre .3 .lies) (spot-is (from-duplicate c) .marks) (c .is-duplicate .ensures)
 
 -- counted or refused, as the enum says
 ended : (c : tie.After-count-message) {r : Counting} → c .count-message .result ≡ r → (κ : Config) → let s = entry (from-else (c .before .before)) in Follows κ (s .args .p) → CountedIn κ (said s) (s .args .row .now) (c .count-message .last .0) r
@@ -78,12 +97,12 @@ returns c κ f =
     let d = from-then told in
     let s = entry d in
     let a = s .args in
-    heard-kept κ (said s) (a .bidirectional) (a .row .now) (d .is-duplicate .ensures κ f) (not-true _ (told .if1 .taken)) (c .answer-of .ensures κ f)
+    heard-kept κ (said s) (a .bidirectional) (a .row .now) (duplicate-is d κ f) (not-true _ (told .if1 .taken)) (c .answer-of .ensures κ f)
 
 count-message-requires : tie.Need-count-message-requires
 count-message-requires c κs =
     let d = from-else (c .before) in
-    let s = entry d in (s .pre .0, s .pre .1, spot-is (from-duplicate d))
+    let s = entry d in (s .pre .0, s .pre .1, spot-is (from-duplicate d), s .pre .3)
 
 returns-2 : tie.Need-returns-2
 returns-2 c κ f =
@@ -93,7 +112,7 @@ returns-2 c κ f =
     let d = from-else told in
     let s = entry d in
     let a = s .args in
-    heard-refused κ (said s) (a .bidirectional) (a .row .now) (d .is-duplicate .ensures κ f) (t .counting .given .0 .0) (not-false _ (told .if1 .left)) (ended counted (t .counting .given .1) κ f)
+    heard-refused κ (said s) (a .bidirectional) (a .row .now) (duplicate-is d κ f) (t .counting .given .0 .0) (not-false _ (told .if1 .left)) (ended counted (t .counting .given .1) κ f)
 
 -- counted, with these marks
 done : (c : tie.After-counting2) (κ : Config) → let s = entry (from-else (from-done c .before .before)) in Follows κ (s .args .p) → CountedIn κ (said s) (s .args .row .now) (from-done c .count-message .last .0) (Done (c .counting2 .given .0 .0))
@@ -108,7 +127,7 @@ answer-counted-requires c κs =
     let m = said s in
     let row = s .args .row .now in
     let w = done t (some-config p) (some-follows p) in
-    (counted-held (some-config p) m (small s) (s .pre .2) _ row _ (s .pre .0) w, s .pre .1, counted-marks (some-config p) m (s .args .bidirectional) row (d .is-duplicate .ensures (some-config p) (some-follows p)) _ w)
+    (counted-held (some-config p) m (small s) (s .pre .2) _ row _ (s .pre .0) w, s .pre .1, counted-marks (some-config p) m (s .args .bidirectional) row (duplicate-is d (some-config p) (some-follows p)) _ w)
 
 returns-3 : tie.Need-returns-3
 returns-3 c κ f =
@@ -117,7 +136,7 @@ returns-3 c κ f =
     let d = from-else told in
     let s = entry d in
     let a = s .args in
-    heard-counted κ (said s) (a .bidirectional) (a .row .now) (d .is-duplicate .ensures κ f) _ (done t κ f) (not-false _ (told .if1 .left)) (c .answer-counted .ensures κ f)
+    heard-counted κ (said s) (a .bidirectional) (a .row .now) (duplicate-is d κ f) _ (done t κ f) (not-false _ (told .if1 .left)) (c .answer-counted .ensures κ f)
 
 pub hear-spec : {M : Type 1} → statement M
 hear-spec =
@@ -126,6 +145,8 @@ hear-spec =
     (λ c κs. search needs)
     (λ c. search needs)
     locate-requires
+    (λ c. search needs)
+    (λ c. search needs)
     is-duplicate-requires
     (λ c. search needs)
     (λ c. search needs)

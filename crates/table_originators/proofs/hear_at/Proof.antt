@@ -8,7 +8,7 @@ use Rattle.rules.specs.Messages.{messageOf}
 use Rattle.table_record.specs.Record.{Held}
 use Rattle.table_layout.specs.Cells.{decode}
 use Rattle.table_originators.specs.Originators.{recordPlace}
-use Rattle.table_originators.proofs.Changed.{heard-in}
+use Rattle.table_originators.proofs.Changed.{timely-in, heard-in}
 use Rattle.table_originators.proofs.hear_at.Statement.{statement}
 use Rattle.table_originators.proofs.hear_at.Tie as tie
 
@@ -22,6 +22,7 @@ hear-requires c κs =
       subst Held (sym (part-is (now (s .args .cells)) (recordPlace (s .args .i)) recordCells (s .pre .0 .fits))) (s .pre .0 .row),
       c .before .policy-of .ensures .1,
       s .pre .1,
+      record { lies = timely-in (now (s .args .cells)) (s .args .i) (s .pre .0 .fits) (c .before .policy-of .ensures .0) (s .args .m .sequence) (s .pre .2); timely = s .pre .3 },
     )
 
 returns : tie.Need-returns

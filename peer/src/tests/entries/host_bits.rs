@@ -144,6 +144,7 @@ fn whatever_else_a_packet_gets_host_bits_are_16() {
         (vec![], 10, octets(128, 50, 301, FAR), none(), 24),
         (vec![], 13, far(), none(), 25),
         (vec![], 10, far(), none(), 26),
+        (eight_links(), 28, octets(0, 50, 292, FAR), too_many(), 27),
     ];
     for (lines, sender, header, mut entries, number) in cases {
         let clean = arrival(sender, 0, header.clone(), &entries);
