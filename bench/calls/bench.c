@@ -1,4 +1,4 @@
-/* Times the library's calls beside two versions in C, in short slices that take turns, after it has seen that all answer alike. */
+/* Times the library's calls beside two versions in C, in short slices that take turns, after it has seen that these answer alike. */
 #define _POSIX_C_SOURCE 200809L
 
 #include <inttypes.h>
@@ -16,15 +16,20 @@ enum {
     CELLS_GCC,
     PLAIN_CLANG,
     PLAIN_GCC,
+    OF_THIS_TREE, /* so many: these go by the same rules */
 #ifdef BEFORE
-    EARLIER, /* another archive of the library */
-#endif
+    EARLIER = OF_THIS_TREE, /* another archive of the library, which may go by earlier rules */
     VERSIONS,
+#else
+    VERSIONS = OF_THIS_TREE,
+#endif
     SINGLES = VERSIONS, /* the library's single calls, which are timed beside its bursts on a table of their own */
     PLAYERS,
     COMPARED = 1000000, /* calls */
     SLICES = 61,       /* of which the median is taken */
     LINKS = 8,
+    WINDOW = 64,
+    HALF_WAY = 32768,  /* numbers, of 65,536 */
     MOST = 256,        /* originators */
     CALLS_MOST = 1024, /* in a slice */
     SEARCHES = 8192,   /* in a slice, after one check of the table */
@@ -114,10 +119,10 @@ static struct arrival arrive(struct mesh *m, uint32_t originator, uint16_t seque
                             address_of(neighbour), interface_of(neighbour), ++m->time};
 }
 
-/* An originator's current number by a neighbour: whichever link brings it, it has the same entries. */
-static struct arrival message(struct mesh *m, unsigned o, unsigned neighbour)
+/* A number of an originator by a neighbour: whichever link brings it, it has the same entries. */
+static struct arrival message(struct mesh *m, unsigned o, uint16_t number, unsigned neighbour)
 {
-    struct arrival a = arrive(m, address_of(o), m->sequence[o], neighbour, 0);
+    struct arrival a = arrive(m, address_of(o), number, neighbour, 0);
     uint8_t *entry = a.packet + 12;
     write_entry(entry, YARD_NETWORK, YARD_MASK);
     for (unsigned n = 0; n < ENTRIES - 1; n++)
@@ -137,7 +142,7 @@ static struct arrival relayed(struct mesh *m, unsigned o)
     while (m->heard[o] >> link & 1)
         link = (link + 1) % LINKS;
     m->heard[o] |= (uint8_t)(1u << link);
-    return message(m, o, link);
+    return message(m, o, m->sequence[o], link);
 }
 
 /* A neighbour's own packet. */
@@ -145,7 +150,14 @@ static struct arrival direct(struct mesh *m, unsigned o)
 {
     m->heard[o] = (uint8_t)(1u << o);
     m->sequence[o]++;
-    return message(m, o, o);
+    return message(m, o, m->sequence[o], o);
+}
+
+/* A number below the window, any down to the one half way round, by any neighbour. */
+static struct arrival stale(struct mesh *m, unsigned o)
+{
+    uint16_t number = (uint16_t)(m->sequence[o] - WINDOW - below(m, HALF_WAY - WINDOW + 1));
+    return message(m, o, number, (unsigned)below(m, LINKS));
 }
 
 static struct batman_received take(const struct version *v, void *table, size_t count, const struct arrival *a)
@@ -227,7 +239,7 @@ static void same_rounds(const struct mesh *m)
 static void open_mesh(struct mesh *m, int size, enum batman_tie tie)
 {
     unsigned originators = sizes[size];
-    struct batman_settings s = {.version = 4, .window = 64, .timeout = 1000, .purge = PURGE, .capacity = originators, .tie = tie};
+    struct batman_settings s = {.version = 4, .window = WINDOW, .timeout = 1000, .purge = PURGE, .capacity = originators, .tie = tie};
     struct batman_interfaces f = {.row = {{0x0a020001, 0x0a02ffff, 1}, {0x0a020002, 0x0a02ffff, 1}}, .used = 2};
     *m = (struct mesh){.size = size, .originators = originators, .calls = originators > 64 ? 256 : originators > 16 ? 512 : CALLS_MOST,
                        .copies = originators > 64 ? 8 : originators > 16 ? 16 : COPIES_MOST, .random = random_seeded(originators)};
@@ -399,6 +411,12 @@ static void prepare_direct(struct mesh *m, struct slice *s)
         s->arrival[i] = direct(m, (unsigned)below(m, m->originators < LINKS ? m->originators : LINKS));
 }
 
+static void prepare_stale(struct mesh *m, struct slice *s)
+{
+    for (unsigned i = 0; i < s->calls; i++)
+        s->arrival[i] = stale(m, (unsigned)below(m, m->originators));
+}
+
 /* Echoes keep the neighbour rows, however many own packets have gone out. */
 static void prepare_time(struct mesh *m, struct slice *s)
 {
@@ -429,13 +447,13 @@ static void prepare_copies(struct mesh *m, struct slice *s)
 {
     s->calls = m->copies;
     s->time = m->time;
-    s->arrival[0] = message(m, m->originators / 2, 0);
+    s->arrival[0] = message(m, m->originators / 2, m->sequence[m->originators / 2], 0);
 }
 
 /* ---- timing */
 
 /* The rows, as docs/BENCHMARK.md shows them: those of bursts in a table of their own. */
-enum { RELAYED, TIES, DIRECT, OWN, SWEEP, BEST, LOOKUP, SEARCH, CHECK_2, CHECK_16, CHECK_292, SWEEP_ONE, FIRST, BURST_8, BURST_32, ROWS };
+enum { RELAYED, TIES, DIRECT, STALE, OWN, SWEEP, BEST, LOOKUP, SEARCH, CHECK_2, CHECK_16, CHECK_292, SWEEP_ONE, FIRST, BURST_8, BURST_32, ROWS };
 
 static const struct row {
     const char *name;
@@ -448,6 +466,7 @@ static const struct row {
     [RELAYED] = {"receive, relayed", prepare_relayed, play_receive, false, 0, 0},
     [TIES] = {"receive, relayed, ties stay", prepare_relayed, play_receive, false, 0, 0},
     [DIRECT] = {"receive, direct", prepare_direct, play_receive, false, 0, 0},
+    [STALE] = {"receive, stale", prepare_stale, play_receive, false, 0, 0},
     [OWN] = {"own packet, 2 HNA entries", prepare_time, play_own, false, 0, 0},
     [SWEEP] = {"sweep, none removed", prepare_time, play_sweep, false, 0, 0},
     [BEST] = {"best question", prepare_time, play_best, false, 0, 0},
@@ -506,7 +525,8 @@ static void time_row(struct mesh *m, int row)
     static struct slice s;
     static double slice[PLAYERS][SLICES];
     const struct row *r = &rows[row];
-    int players = r->play == play_search ? PLAIN_GCC + 1 : r->burst > 0 ? PLAYERS : VERSIONS; /* an earlier archive has no search alone */
+    bool not_before = r->play == play_search || r->prepare == prepare_stale; /* an earlier archive has no search alone, and may count stale numbers */
+    int players = not_before ? OF_THIS_TREE : r->burst > 0 ? PLAYERS : VERSIONS;
     memcpy(m->table[SINGLES], m->table[0], m->count * sizeof(uint64_t)); /* the single calls begin where the bursts do */
     for (int i = 0; i < SLICES; i++) {
         uint64_t sum[PLAYERS];
@@ -548,7 +568,7 @@ static void same_cells(const struct mesh *m)
 
 static void time_mesh(int size)
 {
-    static const int steady[] = {RELAYED, BURST_8, BURST_32, DIRECT, OWN, SWEEP, BEST, LOOKUP, SEARCH, CHECK_2, CHECK_16, CHECK_292};
+    static const int steady[] = {RELAYED, BURST_8, BURST_32, STALE, DIRECT, OWN, SWEEP, BEST, LOOKUP, SEARCH, CHECK_2, CHECK_16, CHECK_292};
     static struct mesh m;
     open_mesh(&m, size, BATMAN_NEWEST_WINS); /* as it was before there was a choice: these rows stay comparable */
     for (size_t i = 0; i < sizeof steady / sizeof *steady; i++)
@@ -630,7 +650,7 @@ static double slowest_from(int from)
 /* In microseconds, of the rows of single packets. */
 static double slowest_receive(int size)
 {
-    static const int receive[] = {RELAYED, TIES, DIRECT, FIRST};
+    static const int receive[] = {RELAYED, TIES, DIRECT, STALE, FIRST};
     double most = 0;
     for (size_t i = 0; i < sizeof receive / sizeof *receive; i++)
         most = larger(most, took[receive[i]][size][0] / 1000);
@@ -664,7 +684,7 @@ static void print_all(void)
 
 int main(void)
 {
-    if (!compare(versions, VERSIONS, COMPARED))
+    if (!compare(versions, OF_THIS_TREE, COMPARED))
         return EXIT_FAILURE;
     fflush(stdout);
     for (int size = 0; size < SIZES; size++) {

@@ -209,11 +209,10 @@ struct arrival {
     size_t entries;
 };
 
-static inline bool is_duplicate(const uint64_t *r, uint64_t window, uint64_t key, uint16_t number)
+/* Whether a number inside the window is marked on this link. */
+static inline bool is_marked(const uint64_t *r, uint64_t key, uint16_t number)
 {
     uint64_t behind = (uint16_t)(r[CURRENT] - number), n = r[LINKS];
-    if (behind >= window)
-        return false;
     for (const uint64_t *link = r + LINKS_FROM, *end = link + LINK * n; link < end; link += LINK)
         if (link[0] == key)
             return link[1] >> behind & 1;
@@ -280,9 +279,8 @@ static inline void replace_entries(uint64_t *r, const struct arrival *m)
 }
 
 /* Counts, and answers 0; or a refusal, with nothing changed. */
-static uint64_t count_message(uint64_t *r, uint64_t window, uint64_t tie, const struct arrival *m)
+static uint64_t count_message(uint64_t *r, uint64_t window, uint64_t tie, const struct arrival *m, bool is_new)
 {
-    bool is_new = (uint16_t)(r[CURRENT] - m->sequence) >= window;
     uint64_t next = is_new ? m->sequence : r[CURRENT];
     struct links all = moved(r, window, (uint16_t)(next - r[CURRENT]), (uint16_t)(next - m->sequence), m->key), kept = {.n = 0};
     uint64_t best = chosen(&all, tie, m->key, r[BEST]);
@@ -381,12 +379,18 @@ static struct batman_received others_message(uint64_t *c, const uint8_t *packet,
 {
     uint64_t *rows = c + NEIGHBOURS_AT, *records = c + ALL_RECORDS_AT, window = c[WINDOW_AT];
     struct place p = find(records, RECORD, (size_t)c[RECORDS_AT], m->originator);
-    size_t at = p.at;
-    bool bidirectional = find(rows, NEIGHBOUR, (size_t)c[ROWS_AT], m->key).found, held = p.found;
-    bool direct = m->key >> 2 == m->originator, duplicate = held && is_duplicate(records + at * RECORD, window, m->key, m->sequence);
-    uint64_t *r = records + at * RECORD, last_ttl = held ? r[LAST_TTL] : 0;
+    uint64_t *r = records + p.at * RECORD;
+    bool held = p.found;
+    enum position position = held ? position_of((uint16_t)r[CURRENT], m->sequence, window) : NEW;
+    if (position == STALE) {
+        c[TIME_AT] = m->time;
+        return answer(27, route_of(c, r));
+    }
+    bool bidirectional = find(rows, NEIGHBOUR, (size_t)c[ROWS_AT], m->key).found;
+    bool direct = m->key >> 2 == m->originator, duplicate = position == INSIDE && is_marked(r, m->key, m->sequence);
+    uint64_t last_ttl = held ? r[LAST_TTL] : 0;
     if (bidirectional && !duplicate) {
-        uint64_t number = held ? count_message(r, window, c[TIE_AT], m) : make_record(c, at, m);
+        uint64_t number = held ? count_message(r, window, c[TIE_AT], m, position == NEW) : make_record(c, p.at, m);
         if (number != 0)
             return refusal((struct fault){number, 0});
         held = true;

@@ -189,15 +189,26 @@ static void draw_entries(struct packet *p, size_t from)
 
 static uint64_t draw_interface(const struct history *h) { return seldom(40) ? 4 : below(h->interfaces.used); }
 
+/* A node's latest number, the next one or one some way ahead; now and then an earlier one, below small windows or the largest, or one about half way round, where the node may go on, as if it had
+ * started again. */
+static uint16_t draw_number(uint16_t *number)
+{
+    uint16_t half_way = (uint16_t)(*number + 32766 + below(4));
+    *number = (uint16_t)(*number + (seldom(3) ? 1 : 0) + (seldom(60) ? below(80) : 0));
+    if (seldom(100))
+        return half_way;
+    if (seldom(200))
+        *number = half_way;
+    return (uint16_t)(*number - (seldom(6) ? below(seldom(3) ? 80 : 12) : 0));
+}
+
 static void draw_packet(struct history *h, struct packet *p)
 {
     bool echo = seldom(4);
     uint32_t node = 1 + (uint32_t)below(h->originators), originator = node;
-    uint16_t *number = &h->number[node], said;
+    uint16_t said = draw_number(&h->number[node]);
     p->interface = draw_interface(h);
     p->sender = seldom(4) ? node : 1 + (uint32_t)below(seldom(12) ? 40 : h->nodes);
-    *number = (uint16_t)(*number + (seldom(3) ? 1 : 0) + (seldom(60) ? below(80) : 0));
-    said = (uint16_t)(*number - (seldom(6) ? below(12) : 0));
     if (echo && p->interface < 4) {
         originator = OWN_FROM + (uint32_t)(seldom(10) ? below(4) : p->interface);
         said = (uint16_t)(h->last[p->interface] - (seldom(8) ? 1 : 0));
@@ -462,10 +473,10 @@ static bool came(const unsigned long *answers, int from, int to, const char *to_
 
 static bool every_number_came(const struct players *p)
 {
-    return came(p->by_number, 0, BATMAN_HOST_BITS_SET, "call") && came(p->by_number, BATMAN_OWN_SENDER, BATMAN_PASSED_ON, "call") &&
+    return came(p->by_number, 0, BATMAN_HOST_BITS_SET, "call") && came(p->by_number, BATMAN_OWN_SENDER, BATMAN_STALE, "call") &&
            came(p->in_bursts, BATMAN_NOT_IN_USE, BATMAN_LINKS_FULL, "packet of a burst") &&
            came(p->in_bursts, BATMAN_ENTRIES_FULL, BATMAN_HOST_BITS_SET, "packet of a burst") &&
-           came(p->in_bursts, BATMAN_OWN_SENDER, BATMAN_PASSED_ON, "packet of a burst");
+           came(p->in_bursts, BATMAN_OWN_SENDER, BATMAN_STALE, "packet of a burst");
 }
 
 bool compare(const struct version *const *versions, int n, unsigned long calls)
@@ -481,9 +492,9 @@ bool compare(const struct version *const *versions, int n, unsigned long calls)
         same = play_history(&p);
     same = same && every_number_came(&p);
     if (same)
-        printf("%lu calls on %d versions, %lu of them bursts, %lu lookups (%lu found an entry) and %lu on damaged tables: the same answers, outputs and cells; "
-               "every refusal and verdict came up\n",
-               p.calls, n, p.bursts, p.lookups, p.found, p.damaged);
+        printf("%lu calls on %d versions, %lu of them bursts, %lu lookups (%lu found an entry) and %lu on damaged tables; %lu packets were stale: the same answers, outputs and "
+               "cells; every refusal and verdict came up\n",
+               p.calls, n, p.bursts, p.lookups, p.found, p.damaged, p.by_number[BATMAN_STALE] + p.in_bursts[BATMAN_STALE]);
     for (int i = 0; i < n; i++)
         free(p.table[i]);
     free(p.spare[0]);

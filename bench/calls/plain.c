@@ -155,13 +155,10 @@ static inline void take_networks(struct originator *o, const struct message *m)
     o->networks = (uint8_t)m->networks;
 }
 
-static inline bool is_new(const struct originator *o, uint64_t window, const struct message *m) { return (uint16_t)(o->current - m->sequence) >= window; }
-
-static inline void count_on(struct originator *o, const struct batman_settings *s, const struct message *m)
+static inline void count_on(struct originator *o, const struct batman_settings *s, const struct message *m, bool is_new)
 {
-    bool moves = is_new(o, s->window, m);
     unsigned was = o->best;
-    if (moves)
+    if (is_new)
         move_window(o, s->window, m->sequence);
     struct link *l = link_of(o, m->sender, m->interface);
     if (l == NULL) {
@@ -171,17 +168,17 @@ static inline void count_on(struct originator *o, const struct batman_settings *
     l->marks |= (uint64_t)1 << (uint16_t)(o->current - m->sequence);
     if (becomes_best(o, s->tie, l))
         o->best = (uint8_t)(l - o->link);
-    if (moves || o->link[was].marks == 0) /* only then may a link have lost its last mark, or best */
+    if (is_new || o->link[was].marks == 0) /* only then may a link have lost its last mark, or best */
         drop_empty(o);
     o->seen = m->time;
     o->last_ttl = m->ttl;
 }
 
 /* A ninth link may take the place of one that is dropped, which only a trial tells. Else the message is refused by 11, or by what comes behind that. */
-static uint64_t count_ninth(struct originator *o, const struct batman_settings *s, const struct message *m, uint64_t behind)
+static uint64_t count_ninth(struct originator *o, const struct batman_settings *s, const struct message *m, bool is_new, uint64_t behind)
 {
     struct originator trial = *o;
-    count_on(&trial, s, m);
+    count_on(&trial, s, m, is_new);
     if (trial.links > LINK_MOST)
         return 11;
     if (behind == 0)
@@ -190,15 +187,14 @@ static uint64_t count_ninth(struct originator *o, const struct batman_settings *
 }
 
 /* Counts, and answers 0; or a refusal, with nothing changed. */
-static uint64_t count_message(struct originator *o, const struct batman_settings *s, const struct message *m)
+static uint64_t count_message(struct originator *o, const struct batman_settings *s, const struct message *m, bool is_new)
 {
-    bool replaces = is_new(o, s->window, m);
-    uint64_t number = replaces && m->networks > NETWORK_MOST ? 15 : 0;
+    uint64_t number = is_new && m->networks > NETWORK_MOST ? 15 : 0;
     if (o->links == LINK_MOST && link_of(o, m->sender, m->interface) == NULL)
-        number = count_ninth(o, s, m, number);
+        number = count_ninth(o, s, m, is_new, number);
     else if (number == 0)
-        count_on(o, s, m);
-    if (number == 0 && replaces)
+        count_on(o, s, m, is_new);
+    if (number == 0 && is_new)
         take_networks(o, m);
     return number;
 }
@@ -221,11 +217,13 @@ static uint64_t first_message(struct plain *p, const struct message *m)
 
 static inline struct batman_received refusal(struct fault f) { return (struct batman_received){.number = f.number, .place = f.place}; }
 
-static inline struct batman_received verdict(struct plain *p, uint64_t number, const struct message *m)
+static inline struct batman_received verdict_on(struct plain *p, uint64_t number, const struct message *m, const struct originator *o)
 {
     p->time = m->time;
-    return (struct batman_received){.number = number, .route = route_by(p, find(p, m->originator))};
+    return (struct batman_received){.number = number, .route = route_by(p, o)};
 }
+
+static inline struct batman_received verdict(struct plain *p, uint64_t number, const struct message *m) { return verdict_on(p, number, m, find(p, m->originator)); }
 
 static inline const struct sender *own_by(const struct plain *p, uint32_t address)
 {
@@ -256,11 +254,10 @@ static struct batman_received own_message(struct plain *p, const struct message 
     return verdict(p, 22, m);
 }
 
-static inline bool is_duplicate(struct originator *o, uint64_t window, const struct message *m)
+/* Whether a number inside the window is marked on the link that brings it. */
+static inline bool is_marked(struct originator *o, const struct message *m)
 {
     uint16_t behind = (uint16_t)(o->current - m->sequence);
-    if (behind >= window)
-        return false;
     const struct link *l = link_of(o, m->sender, m->interface);
     return l != NULL && l->marks >> behind & 1;
 }
@@ -268,10 +265,13 @@ static inline bool is_duplicate(struct originator *o, uint64_t window, const str
 static struct batman_received others_message(struct plain *p, const struct message *m, const uint8_t *packet, size_t length, uint8_t *output)
 {
     struct originator *o = find(p, m->originator);
+    enum position position = o != NULL ? position_of(o->current, m->sequence, p->settings.window) : NEW;
+    if (position == STALE)
+        return verdict_on(p, 27, m, o);
     bool bidirectional = neighbour_of(p, m->sender, m->interface) != NULL, direct = m->sender == m->originator;
-    bool duplicate = o != NULL && is_duplicate(o, p->settings.window, m), fresh = !duplicate || m->ttl == o->last_ttl;
+    bool duplicate = position == INSIDE && is_marked(o, m), fresh = !duplicate || m->ttl == o->last_ttl;
     if (bidirectional && !duplicate) {
-        uint64_t number = o != NULL ? count_message(o, &p->settings, m) : first_message(p, m);
+        uint64_t number = o != NULL ? count_message(o, &p->settings, m, position == NEW) : first_message(p, m);
         if (number != 0)
             return refusal((struct fault){number, 0});
         if (o == NULL)

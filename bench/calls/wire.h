@@ -1,4 +1,4 @@
-/* The octets of a packet, for both versions in C. */
+/* The octets of a packet, and where its number lies, for both versions in C. */
 #ifndef WIRE_H
 #define WIRE_H
 
@@ -8,6 +8,8 @@
 #include <string.h>
 
 enum { HEADER = 12, ENTRY = 5, PACKET_MOST = 1472, MASK_AT = 4, MASK_MOST = 32, TTL_LEAST = 2, U = 128, D = 64, UNNAMED = 63 };
+
+enum { HALF_WAY = 32768 }; /* numbers, of 65,536 */
 
 struct fault {
     uint64_t number, place;
@@ -68,6 +70,15 @@ static inline struct fault written_fault(const uint8_t *hna, size_t length, uint
     if (f.number == 0 && ttl < TTL_LEAST)
         f.number = 13;
     return f;
+}
+
+/* Where a number lies beside the current one of its originator. */
+enum position { NEW, INSIDE, STALE };
+
+static inline enum position position_of(uint16_t current, uint16_t number, uint64_t window)
+{
+    uint16_t below = (uint16_t)(current - number);
+    return below < window ? INSIDE : below > HALF_WAY ? NEW : STALE;
 }
 
 /* How many HNA entries a packet of this length has. */
