@@ -26,10 +26,11 @@ use Rattle.rules.specs.Rules.{message, isStale, isBestBy, isDuplicate, isFresh,
 use Rattle.rules.specs.Table.{TableRecord, TableState, firstRecord, nextRecord, isStaleIn, table}
 use Rattle.table_layout.specs.Layout.{timeAt, capacityAt, recordsAt}
 use Rattle.table_layout.specs.Cells.{encode, decode}
-use Rattle.count_in_record.specs.declared.Answer.{Answer}
-use Rattle.count_in_record.specs.declared.Heard.{Heard}
-use Rattle.count_in_record.specs.declared.Heard.the-variants as H
-use Rattle.count_in_record.specs.Counting.{countedFault, isRepeated, isFreshIn, isCounted, isTaken, Answers}
+use Rattle.hear_message.specs.declared.Answer.{Answer}
+use Rattle.hear_message.specs.declared.Heard.{Heard}
+use Rattle.hear_message.specs.declared.Heard.the-variants as H
+use Rattle.count_in_record.specs.Counting.{countedFault}
+use Rattle.hear_message.specs.Hearing.{isRepeated, isFreshIn, isCounted, isTaken, Answers}
 use Rattle.table_changes.specs.Changes.{withRecords}
 use Rattle.table_changes.proofs.Parts.{time-set}
 use Rattle.table_originators.specs.Originators.{Stands, Missing, standingAt, LiesAt, HeardAt, Made}

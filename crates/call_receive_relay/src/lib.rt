@@ -7,7 +7,7 @@ use call_receive_arrival::end_stale;
 use call_receive_arrival::refused;
 use cells::Found;
 use count_entries::too_many;
-use count_in_record::Heard;
+use hear_message::Heard;
 use rules::Received;
 use table_layout::CAPACITY;
 use table_layout::NEIGHBOURS_FROM;

@@ -1,4 +1,3 @@
 -- A record's row after a message.
 pub mod Rows
 pub mod Left
-pub mod Hearing

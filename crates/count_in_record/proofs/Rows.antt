@@ -1,9 +1,9 @@
 -- A record's row: what counting writes is the encoding of what the rules count. Assumes nothing.
 use mathlib.Core.Path.{_≡_, refl, sym, ap, _∙_, subst}
 use mathlib.Core.List.{List, [], _∷_, _++_, append-nil}
-use mathlib.Core.Bool.{Bool, true, false, cond, _&&_, _||_}
+use mathlib.Core.Bool.{Bool, true, false, cond, _||_}
 use mathlib.Core.Option.{Option, none, some}
-use Prim.Native.Nat.{ℕ, _*_, _-_, _%_, _≤_, _<_}
+use Prim.Native.Nat.{ℕ, _*_, _%_, _≤_, _<_}
 use native.Mathlib.Nat.{mod-eq-of-lt}
 use native.Mathlib.Omega.{arith}
 use lib.Dec.{ltb, eqb}
@@ -19,7 +19,7 @@ use Rattle.cells.specs.Area.{fit}
 use Rattle.cells.proofs.Areas.{length-fit, take-fit, length-rows}
 use Rattle.cells.proofs.Lent.{cells-from}
 use Rattle.window.specs.declared.Position.{Position}
-use Rattle.window.specs.Window.{numbers, distance, position, isNew, isInside, isStale, new, inside, stale, currentBy, advance, marked, shift, mark, count}
+use Rattle.window.specs.Window.{numbers, distance, position, isNew, isStale, new, stale, currentBy, advance, shift, mark, count}
 use Rattle.window.specs.Marks.{wordOf}
 use Rattle.window.proofs.Numbers.{distance-self}
 use Rattle.wire.specs.declared.Fault.{Fault}
@@ -29,7 +29,7 @@ use Rattle.rules.specs.Messages.{Message}
 use Rattle.rules.specs.declared.Policy.{Policy}
 use Rattle.rules.specs.Settings.{Config, Follows, linkMost, entryMost, linkCells, recordHeadCells, linkAreaCells, entryAreaCells, recordCells}
 use Rattle.rules.specs.Rules.{sequenceOf, countedFaults}
-use Rattle.rules.specs.Table.{TableRecord, table, marksAt, isHighest, firstRecord, nextRecord, isMarked}
+use Rattle.rules.specs.Table.{TableRecord, table, marksAt, isHighest, firstRecord, nextRecord}
 use Rattle.rules.proofs.Counting.{advance-inside}
 use Rattle.rules.proofs.Faults.{none-at, not-given}
 use Rattle.table_record.specs.Links.{linkRow, linkArea, linksFrom}
@@ -213,10 +213,6 @@ module _ (w c n : ℕ) {q : Position} (e : q ≡ position w c n) where
   unfolding new
   new-is h = h ∙ ap isNew e
 
-  pub inside-is : inside w c n ≡ isInside q
-  unfolding inside
-  inside-is = ap isInside (sym e)
-
   pub stale-is : stale w c n ≡ isStale q
   unfolding stale
   stale-is = ap isStale (sym e)
@@ -250,21 +246,3 @@ module _ (κ : Config) (m : Message) (small : m .sequence < numbers) where
   first-cells address before after {links} {v} h len ev b en e =
       let l : fit (linkMost * linkCells) links ≡ linkArea linkMost ((m .link, mark 0 0) ∷ []) = ap (fit (linkMost * linkCells)) (done-cells b ∙ (λ i. fit (len i) (cellsOf ((m .link, ev i) ∷ [])))) in
       e ∙ (λ i. getD-set-same before addressAt address 0 h i ∷ m .sequence ∷ m .time ∷ m .ttl ∷ 1 ∷ m .link ∷ en i ∷ (l i ++ fit entryAreaCells (m .entries))) ∙ ap (λ (r : TableRecord). encodeRecord (address, r)) first-is
-
--- ---- a number that comes to a record
-
--- the number n, on link l
-module _ (κ : Config) (row : List ℕ) (l n : ℕ) {p : Policy} (f : Follows κ p) (small : n < numbers) where
-  abbrev current-then : ℕ
-  current-then = getD row currentAt 0
-
-  abbrev same-number : n ≡ n % numbers
-  same-number = sym (mod-eq-of-lt small)
-
-  -- where it lies beside the window tells, with its link's marks, whether it is a duplicate
-  module _ {q : Position} (e : q ≡ position (p .window) current-then n) where
-    pub marked-by : {t : Bool} {v : ℕ} → v ≡ marksAt (linksOf row) l → t ≡ (isInside q && marked v current-then n) → t ≡ isMarked κ (decodeRecord row .1) l (n % numbers)
-    unfolding isMarked decodeRecord
-    marked-by ev et =
-        et ∙ (λ i. sym (inside-is (p .window) current-then n e) i && marked (ev i) current-then n)
-        ∙ (λ i. inside (f .window i) current-then (same-number i) && marked (marksAt (linksOf row) l) current-then (same-number i))

@@ -32,8 +32,8 @@ use Rattle.table_layout.proofs.Parts.{wide-interfaces, wide-rows, encoded-size,
 use Rattle.table_changes.proofs.Parts.{records-back}
 use Rattle.table_changes.proofs.Sent.{run-back}
 use Rattle.rules.proofs.WellFormed.{Wf, parts}
-use Rattle.count_in_record.specs.declared.Heard.{Heard}
-use Rattle.count_in_record.specs.Counting.{isTaken, Answers, HeardIn}
+use Rattle.hear_message.specs.declared.Heard.{Heard}
+use Rattle.hear_message.specs.Hearing.{isTaken, Answers, HeardIn}
 use Rattle.table_originators.specs.Originators.{recordPlace, Stands, Missing, standingAt, countedAt, LiesAt, HeardAt}
 
 abbrev Entry : Type 0

@@ -22,8 +22,8 @@ use Rattle.table_layout.specs.Layout.{recordsFrom}
 use Rattle.table_layout.specs.Cells.{encode, decode}
 use Rattle.table_layout.specs.Facts.{Knows, recordAt}
 use Rattle.table_changes.specs.Changes.{withRecords}
-use Rattle.count_in_record.specs.declared.Heard.{Heard}
-use Rattle.count_in_record.specs.Counting.{isTaken, Answers}
+use Rattle.hear_message.specs.declared.Heard.{Heard}
+use Rattle.hear_message.specs.Hearing.{isTaken, Answers}
 
 -- the originators held, in table order
 abbrev pub heldBy : TableState → List ℕ

@@ -2,9 +2,9 @@
 use cells::SearchResult;
 use cells::find;
 use cells_moves::move_up;
-use count_in_record::Heard;
 use count_in_record::first_record;
-use count_in_record::hear;
+use hear_message::Heard;
+use hear_message::hear;
 use rules::Ogm;
 use rules::Policy;
 use rules::Route;

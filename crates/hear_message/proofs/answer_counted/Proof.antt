@@ -7,8 +7,8 @@ use borrow.Author.Tests.{eq-eqb}
 use Rattle.rules.specs.Table.{marksAt}
 use Rattle.table_record.specs.Record.{bestAt, linksOf, decodeRecord}
 use Rattle.table_record.proofs.Routes.{route-is}
-use Rattle.count_in_record.proofs.answer_counted.Statement.{statement}
-use Rattle.count_in_record.proofs.answer_counted.Tie as tie
+use Rattle.hear_message.proofs.answer_counted.Statement.{statement}
+use Rattle.hear_message.proofs.answer_counted.Tie as tie
 
 abbrev from-if : tie.After-struct-known → tie.Start
 from-if c = c .before .before .before

@@ -15,14 +15,14 @@ use Rattle.table_record.specs.Links.{linksFrom}
 use Rattle.table_record.specs.Record.{currentAt, linksAt, linksOf, decodeRecord}
 use Rattle.table_record.proofs.Routes.{held-sorted}
 use Rattle.count_links.specs.Links.{SpotOf}
 use Rattle.count_in_record.specs.declared.Counting.{Counting}
 use Rattle.count_in_record.specs.declared.Counting.the-variants.{Done}
-use Rattle.count_in_record.specs.Counting.{CountedIn, isRepeated}
-use Rattle.count_in_record.proofs.Rows.{inside-is, marked-by}
+use Rattle.count_in_record.specs.Counting.{CountedIn}
 use Rattle.count_in_record.proofs.Left.{some-config, some-follows, counted-held}
-use Rattle.count_in_record.proofs.Hearing.{heard-kept, counted-marks, heard-counted, heard-refused}
-use Rattle.count_in_record.proofs.hear.Statement.{statement}
-use Rattle.count_in_record.proofs.hear.Tie as tie
+use Rattle.hear_message.specs.Hearing.{isRepeated}
+use Rattle.hear_message.proofs.Hearing.{inside-is, marked-by, heard-kept, counted-marks, heard-counted, heard-refused}
+use Rattle.hear_message.proofs.hear.Statement.{statement}
+use Rattle.hear_message.proofs.hear.Tie as tie
 
 -- ---- the places before each
 

@@ -3,24 +3,54 @@ use mathlib.Core.Path.{_≡_, sym, ap, ap₂, _∙_, subst}
 use mathlib.Core.Bool.{Bool, true, false, cond, _&&_, _||_, not}
 use mathlib.Core.List.{List}
 use mathlib.Core.Option.{Option}
-use Prim.Native.Nat.{ℕ}
+use Prim.Native.Nat.{ℕ, _%_, _<_}
+use native.Mathlib.Nat.{mod-eq-of-lt}
 use lib.Dec.{eqb}
 use lib.ListN.{getD}
 use Rattle.lists.specs.Lists.{maybe}
 use Rattle.lists.proofs.Tests.{and-right, both}
 use Rattle.window.specs.declared.Marks.{Marks}
+use Rattle.window.specs.declared.Position.{Position}
+use Rattle.window.specs.Window.{numbers, position, isInside, inside, marked}
 use Rattle.window.specs.Marks.{wordOf}
 use Rattle.wire.specs.declared.Fault.{Fault}
+use Rattle.rules.specs.declared.Policy.{Policy}
 use Rattle.rules.specs.Messages.{Message}
-use Rattle.rules.specs.Settings.{Config}
-use Rattle.rules.specs.Table.{TableRecord, marksAt, nextRecord}
-use Rattle.table_record.specs.Record.{lastTtlAt, linksOf, encodeRecord, decodeRecord}
+use Rattle.rules.specs.Settings.{Config, Follows}
+use Rattle.rules.specs.Table.{TableRecord, marksAt, nextRecord, isMarked}
+use Rattle.table_record.specs.Record.{currentAt, lastTtlAt, linksOf, encodeRecord, decodeRecord}
 use Rattle.table_record.proofs.Rows.{record-back}
-use Rattle.count_in_record.specs.declared.Answer.{Answer}
 use Rattle.count_in_record.specs.declared.Counting.the-variants.{Done, Refused}
-use Rattle.count_in_record.specs.declared.Heard.the-variants as H
+use Rattle.count_in_record.specs.Counting.{countedFault, CountedIn}
 use Rattle.count_in_record.proofs.Rows.{no-fault}
-use Rattle.count_in_record.specs.Counting.{countedFault, CountedIn, isRepeated, isFreshIn, isCounted, Answered, HeardIn}
+use Rattle.hear_message.specs.declared.Answer.{Answer}
+use Rattle.hear_message.specs.declared.Heard.the-variants as H
+use Rattle.hear_message.specs.Hearing.{isRepeated, isFreshIn, isCounted, Answered, HeardIn}
+
+-- ---- a number that comes to a record
+
+-- a number lies inside the window where its position says so
+pub inside-is : (w c n : ℕ) {q : Position} → q ≡ position w c n → inside w c n ≡ isInside q
+unfolding inside
+inside-is w c n e = ap isInside (sym e)
+
+-- the number n, on link l
+module _ (κ : Config) (row : List ℕ) (l n : ℕ) {p : Policy} (f : Follows κ p) (small : n < numbers) where
+  abbrev current-then : ℕ
+  current-then = getD row currentAt 0
+
+  abbrev same-number : n ≡ n % numbers
+  same-number = sym (mod-eq-of-lt small)
+
+  -- where it lies beside the window tells, with its link's marks, whether it is a duplicate
+  module _ {q : Position} (e : q ≡ position (p .window) current-then n) where
+    pub marked-by : {t : Bool} {v : ℕ} → v ≡ marksAt (linksOf row) l → t ≡ (isInside q && marked v current-then n) → t ≡ isMarked κ (decodeRecord row .1) l (n % numbers)
+    unfolding isMarked decodeRecord
+    marked-by ev et =
+        et ∙ (λ i. sym (inside-is (p .window) current-then n e) i && marked (ev i) current-then n)
+        ∙ (λ i. inside (f .window i) current-then (same-number i) && marked (marksAt (linksOf row) l) current-then (same-number i))
+
+-- ---- counted or not
 
 module _ (κ : Config) (m : Message) (b : Bool) (row : List ℕ) {duplicate : Bool} (ed : duplicate ≡ isRepeated κ m (decodeRecord row .1)) where
   abbrev x : TableRecord

@@ -2,8 +2,8 @@
 use borrow.Author.Needs.{needs}
 use mathlib.Core.Path.{refl}
 use Rattle.table_record.specs.Record.{decodeRecord}
-use Rattle.count_in_record.proofs.answer_of.Statement.{statement}
-use Rattle.count_in_record.proofs.answer_of.Tie as tie
+use Rattle.hear_message.proofs.answer_of.Statement.{statement}
+use Rattle.hear_message.proofs.answer_of.Tie as tie
 
 returns : tie.Need-returns
 unfolding decodeRecord

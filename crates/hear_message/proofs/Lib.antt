@@ -1,0 +1,2 @@
+-- A message that comes to a record.
+pub mod Hearing

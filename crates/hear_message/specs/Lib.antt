@@ -1,0 +1,2 @@
+-- What becomes of a message to a record.
+pub mod Hearing
