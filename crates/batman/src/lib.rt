@@ -1,4 +1,6 @@
 // The C interface: each function here is exported from the archive, and none has a `requires`.
+#![tactic(auto)]
+
 ghost use Rattle.std.specs.Prelude.{◌≡◌};
 ghost use Rattle.wire.specs.Check.{packet_check};
 ghost use Rattle.rules.specs.Calls as C;

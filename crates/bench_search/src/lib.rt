@@ -1,4 +1,6 @@
 // Searches for many originators in one table. It is no call of batman.h: the benchmark times the search alone by it, beside the same in C (bench/calls).
+#![tactic(auto)]
+
 ghost use Rattle.std.specs.Prelude.{◌≡◌, ℕ, ◌≤◌};
 ghost use Rattle.table_layout.specs.Facts.{Knows};
 ghost use Rattle.bench_search.specs.Searches.{held_at, SearchesIn, SearchesOf};
@@ -10,7 +12,7 @@ use wire::refusals::NOT_WELL_FORMED;
 
 // Refusal 1, or 0 with how many of the originators have a record and the most rounds that the search for one of them took.
 #[repr(C)]
-#[derive(Drop)]
+#[derive(Clone, Copy)]
 pub struct Searches {
     pub number: u64,
     pub held: u64,

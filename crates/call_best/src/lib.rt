@@ -1,4 +1,6 @@
 // The best question: which link a packet to an originator should take.
+#![tactic(auto)]
+
 ghost use Rattle.std.specs.Prelude.{◌≡◌};
 ghost use Rattle.std.proofs.Math.Option.{some};
 ghost use Rattle.lists.specs.Keyed.{lookup};

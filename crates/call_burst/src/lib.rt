@@ -1,4 +1,6 @@
 // A burst of received packets: the table is checked once, and each packet is then received behind that check.
+#![tactic(auto)]
+
 ghost use Rattle.std.specs.Prelude.{◌≡◌, cond, ◌+◌, ◌≤◌, eqb, length};
 ghost use Rattle.table_layout.specs.Facts.{Knows};
 ghost use Rattle.call_burst.specs.Bursts.{AnswersNone, Spaces, One, Enough, Receives, Settles};

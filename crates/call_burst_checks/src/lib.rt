@@ -1,4 +1,6 @@
 // What is asked of a burst before its packets: 14, unless its lists, its answer rows and its buffer fit each other.
+#![tactic(auto)]
+
 ghost use Rattle.std.specs.Prelude.{◌≡◌, eqb};
 ghost use Rattle.lists.specs.Lists.{sum};
 ghost use Rattle.rules.specs.Calls.{BurstArgs};

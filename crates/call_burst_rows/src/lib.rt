@@ -1,4 +1,6 @@
 // The answers to a burst's packets, gathered in an array by value, and written to the caller's rows.
+#![tactic(auto)]
+
 ghost use Rattle.std.specs.Prelude.{◌≡◌, ◌≤◌, length, take};
 ghost use Rattle.lists.specs.Lists.{written_to};
 ghost use Rattle.rules.specs.Settings.{packets_most};

@@ -1,7 +1,7 @@
 -- One entry more, and one originator more, in the scan. Assumes nothing.
 use mathlib.Core.Path.{◌≡◌, sym, ap, ap₂, ◌∙◌}
 use mathlib.Core.List.{List, ◌∷◌}
-use mathlib.Core.Bool.{Bool, true, false, cond, ◌&&◌, and_false}
+use mathlib.Core.Bool.{Bool, true, false, cond, ◌&&◌, and-false}
 use Prim.Native.Nat.{ℕ, ◌+◌, ◌≤◌, ◌<◌}
 use native.Mathlib.Numerals.{add-one}
 use native.Mathlib.Omega.{arith}
@@ -42,7 +42,7 @@ module _ (a o e : ℕ) (b : Best) {mask : ℕ} (m : mask ≡ mask_of e) where
     -- it does not cover the address
     pub missed : r ≡ false → b ≡ seen_one a o e b
     unfolding seen_one
-    missed h = sym (ap (λ (t : Bool). cond (leb b.least (mask_of e) && t) (taken o e) b) (covers_is ∙ h) ∙ ap (λ (t : Bool). cond t (taken o e) b) (and_false (leb b.least (mask_of e))))
+    missed h = sym (ap (λ (t : Bool). cond (leb b.least (mask_of e) && t) (taken o e) b) (covers_is ∙ h) ∙ ap (λ (t : Bool). cond t (taken o e) b) (and-false (leb b.least (mask_of e))))
 
     pub better : b.least ≤ mask → r ≡ true → record { least = mask + 1; originator = o; network = network } ≡ seen_one a o e b
     unfolding seen_one

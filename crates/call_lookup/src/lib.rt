@@ -1,4 +1,6 @@
 // The lookup: which originator's entry covers an address, the longest mask first.
+#![tactic(auto)]
+
 ghost use Rattle.std.specs.Prelude.{◌≡◌, true, ◌≤◌, eqb, length, get_or};
 ghost use Rattle.cells.specs.Area.{fit};
 ghost use Rattle.wire.specs.Layout.{mask_most};
@@ -24,7 +26,7 @@ use wire::MASK_MOST;
 use wire::refusals::NOT_WELL_FORMED;
 
 // The best entry seen so far, and its originator. `least` is the shortest mask that is better: one more than its own, or 0 while there is none.
-#[derive(Drop)]
+#[derive(Clone, Copy)]
 pub struct Best {
     pub least: u32,
     pub originator: u32,

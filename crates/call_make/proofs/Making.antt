@@ -1,7 +1,7 @@
 -- Make: what it is allowed, the cells that it fills, and that the rules say so. Assumes nothing.
 use mathlib.Core.Path.{◌≡◌, refl, sym, ap, ◌∙◌}
 use mathlib.Core.List.{List, [], ◌∷◌, ◌++◌, map, append_assoc}
-use mathlib.Core.Bool.{Bool, true, false, cond, ◌&&◌, not, and_true}
+use mathlib.Core.Bool.{Bool, true, false, cond, ◌&&◌, not, and-true}
 use Prim.Native.Nat.{ℕ, zero, suc, ◌+◌, ◌*◌, ◌-◌, ◌≤◌, ◌<◌}
 use native.Mathlib.Omega.{arith}
 use lib.Dec.{ltb, eqb}
@@ -84,7 +84,7 @@ module _ (n : ℕ) (a : MakeArgs) where
       let l : length (take used a.rows) ≡ used = length-take-le used a.rows (omega arith) in
       let rows : all (λ i. and (interface_tests i)) (take used a.rows) ≡ true = all_take used a.rows ranges in
       let κ : allowed (config_of a) ≡ true = allowed_by (config_of a) hs (ap (within 1 interface_most) l ∙ hu) rows hd in
-      λ i. sym κ i && (sym hu i && sym (and_true (eqb n (table_head + a.settings.capacity * record_cells))) i)
+      λ i. sym κ i && (sym hu i && sym (and-true (eqb n (table_head + a.settings.capacity * record_cells))) i)
     where
       all_take : (k : ℕ) (l : List Interface) → all (λ i. and (interface_tests i)) l ≡ true → all (λ i. and (interface_tests i)) (take k l) ≡ true
       all_take zero l h = refl

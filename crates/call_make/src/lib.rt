@@ -1,4 +1,6 @@
 // Making a table in the cells that are lent.
+#![tactic(auto)]
+
 ghost use Rattle.std.specs.Prelude.{◌≡◌, cond, ◌≤◌};
 ghost use Rattle.rules.specs.Settings.{make_allowed, interface_most};
 ghost use Rattle.rules.specs.Calls.{answered, made, make};

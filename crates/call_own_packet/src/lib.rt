@@ -1,4 +1,6 @@
 // The own packet: its octets, the table once it is sent, and the neighbour rows that are then too far behind.
+#![tactic(auto)]
+
 ghost use Rattle.std.specs.Prelude.{◌≡◌, ◌+◌, ◌≤◌, ◌<◌, length, set, get_or};
 ghost use Rattle.lists.specs.Lists.{keep};
 ghost use Rattle.lists.specs.Keyed.{put};

@@ -1,4 +1,6 @@
 // An own packet on a well-formed table: what is refused of it, its number and its message.
+#![tactic(auto)]
+
 ghost use Rattle.std.specs.Prelude.{◌≡◌, List, ℕ, ◌+◌, ◌%◌, ◌<◌, length, get_or};
 ghost use Rattle.std.proofs.Math.Option.{Option};
 ghost use Rattle.lists.specs.Lists.{maybe};

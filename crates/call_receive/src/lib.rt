@@ -1,4 +1,6 @@
 // A received packet: its refusals, its verdict, the echo's neighbour row, the counted record, and the copy that is passed on.
+#![tactic(auto)]
+
 ghost use Rattle.rules.specs.Calls as C;
 ghost use Rattle.rules.specs.Rules as R;
 ghost use Rattle.rules.specs.Table.{table};

@@ -1,4 +1,6 @@
 // A received message, and how its packet ends: refused, or with a verdict and the route of its originator.
+#![tactic(auto)]
+
 ghost use Rattle.std.specs.Prelude.{◌≡◌, ◌<◌, length};
 ghost use Rattle.rules.specs.Calls.{received_as};
 ghost use Rattle.rules.specs.Rules as R;
@@ -16,7 +18,7 @@ use table_layout::TIME;
 use wire::Fault;
 
 // A received message: who sent it, by which interface it came, what its packet says, and what a record is told of it.
-#[derive(Drop)]
+#[derive(Clone, Copy)]
 pub struct Arrival {
     pub sender: u32,
     pub interface: u64,

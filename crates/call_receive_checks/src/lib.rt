@@ -1,4 +1,6 @@
 // What is asked of an incoming packet before it is judged: its refusals, its message, and which addresses are this node's.
+#![tactic(auto)]
+
 ghost use Rattle.std.specs.Prelude.{◌≡◌, true, List, map, ℕ, ◌≤◌, ◌<◌, length};
 ghost use Rattle.lists.specs.Lists.{elem};
 ghost use Rattle.wire.specs.Layout.{header_size};

@@ -1,4 +1,6 @@
 // Messages of this node that come back to it.
+#![tactic(auto)]
+
 ghost use Rattle.std.specs.Prelude.{◌≡◌, List, ℕ, ◌<◌, get_or};
 ghost use Rattle.wire.specs.Packet.{header};
 ghost use Rattle.rules.specs.Rules as R;

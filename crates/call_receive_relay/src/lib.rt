@@ -1,4 +1,6 @@
 // Messages of other nodes: counted or not, and passed on or not.
+#![tactic(auto)]
+
 ghost use Rattle.std.specs.Prelude.{◌≡◌, false, ◌≤◌, length};
 ghost use Rattle.lists.specs.Keyed.{has_key};
 ghost use Rattle.window.specs.Window.{is_stale};

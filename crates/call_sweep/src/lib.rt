@@ -1,4 +1,6 @@
 // The sweep: records whose time is more than the purge timeout ago are removed, in one pass that moves each kept record once.
+#![tactic(auto)]
+
 ghost use Rattle.std.specs.Prelude.{◌≡◌, not, ◌-◌, ◌≤◌, ltb, get_or};
 ghost use Rattle.table_layout.specs.Layout.{time_at};
 ghost use Rattle.table_layout.specs.Facts.{Knows};

@@ -1,5 +1,7 @@
 // Rows in lent cells, for any width: found and tested.
 // Nothing here knows what a row means; the contracts speak of lists of cells alone.
+#![tactic(auto)]
+
 ghost use Rattle.std.specs.Prelude.{◌≡◌};
 ghost use Rattle.cells.specs.Area.{all_zero, column};
 ghost use Rattle.cells.specs.Find.{Sorted, Searched};
@@ -8,14 +10,14 @@ ghost use Rattle.cells.specs.Find.{Sorted, Searched};
 pub const PAIR: usize = 2;
 
 // Where a key stands among rows that rise by their keys, or the place where its row would go.
-#[derive(Drop)]
+#[derive(Clone, Copy)]
 pub enum Found {
     At(usize),
     Place(usize),
 }
 
 // What a search found, and in how many rounds.
-#[derive(Drop)]
+#[derive(Clone, Copy)]
 pub struct SearchResult {
     pub found: Found,
     pub rounds: usize,

@@ -1,5 +1,7 @@
 // Rows in lent cells, for any width: written, moved, put in, cleared.
 // Nothing here knows what a row means; the contracts speak of lists of cells alone.
+#![tactic(auto)]
+
 ghost use Rattle.std.specs.Prelude.{◌≡◌, ◌+◌, ◌≤◌, length, take, drop};
 ghost use Rattle.cells.specs.Area.{fit, zeros, written, moved_up, put_in};
 

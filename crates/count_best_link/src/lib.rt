@@ -1,5 +1,7 @@
 // Which link of an originator is best once a message is counted. This link is the one that the message came by, and `key` its pair of neighbour
 // address and interface.
+#![tactic(auto)]
+
 ghost use Rattle.std.specs.Prelude.{◌≡◌, ◌*◌, ◌≤◌, eqb, length};
 ghost use Rattle.window.specs.Marks.{word_of};
 ghost use Rattle.rules.specs.Settings.{Config, Follows, Bounded, link_cells};
@@ -13,7 +15,7 @@ use window::{Marks, count, shift};
 
 // How a message is counted: by which policy, how far current moves up (0 where the window stays, so that every link's marks are shifted and
 // none is asked whether they move), and how far below it the message's number then lies.
-#[derive(Drop)]
+#[derive(Clone, Copy)]
 pub struct Step {
     pub policy: Policy,
     pub up: u64,

@@ -1,4 +1,6 @@
 // A message's entries on their way to its originator's record: whether they are too many, and how they are written to the record's row.
+#![tactic(auto)]
+
 ghost use Rattle.std.specs.Prelude.{◌≡◌, ◌≤◌, ltb, length};
 ghost use Rattle.cells.specs.Area.{fit, written};
 ghost use Rattle.wire.specs.Check.{entries};

@@ -1,4 +1,6 @@
 // Counting a message in its originator's record, a row of cells; and the record that the first counted message makes.
+#![tactic(auto)]
+
 ghost use Rattle.std.specs.Prelude.{◌≡◌, true, cond, ◌∷◌, ◌++◌, ◌*◌, ◌≤◌, length, get_or};
 ghost use Rattle.cells.specs.Area.{fit};
 ghost use Rattle.wire.specs.Check.{entries};
@@ -28,7 +30,7 @@ use wire::{Fault, refusal};
 const SCRATCH: usize = LINKS_CELLS + LINK;
 
 // How counting ends: done, the message's link having these marks, or refused.
-#[derive(Drop)]
+#[derive(Clone, Copy)]
 pub enum Counting {
     Done(Marks),
     Refused(Fault),

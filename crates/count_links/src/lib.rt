@@ -1,5 +1,7 @@
 // The links of one originator while a message is counted: shifted, marked on this link, and kept or dropped.
 // This link is the one that the message came by, and `key` its pair of neighbour address and interface.
+#![tactic(auto)]
+
 ghost use Rattle.std.specs.Prelude.{◌≡◌, ◌++◌, ◌+◌, ◌*◌, ◌≤◌, ◌<◌, length};
 ghost use Rattle.lists.specs.Lists.{keep};
 ghost use Rattle.cells.specs.Find.{Sorted};
@@ -43,7 +45,7 @@ fn keep_links(out: &mut [u64], m: usize, part: &[u64], n: usize, step: Step, bes
 }
 
 // Where this link stands or would come in: the first `low` links are below it, those from `high` on above. Not held, it has no marks.
-#[derive(Drop)]
+#[derive(Clone, Copy)]
 pub struct Spot {
     pub low: usize,
     pub high: usize,
@@ -71,7 +73,7 @@ pub fn locate(part: &[u64], n: usize, key: u64) -> Spot
 }
 
 // How many links counting leaves, the best one's key, and this link's marks.
-#[derive(Drop)]
+#[derive(Clone, Copy)]
 pub struct Left {
     pub links: usize,
     pub best: u64,

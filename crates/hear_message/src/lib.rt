@@ -1,4 +1,6 @@
 // What a message that isn't stale does to its originator's record, in the record's row of cells: it is counted or not, and then answered.
+#![tactic(auto)]
+
 ghost use Rattle.std.specs.Prelude.{◌≡◌, true};
 ghost use Rattle.window.specs.Marks.{word_of};
 ghost use Rattle.rules.specs.Settings.{Config, Follows, Bounded, is_address};
@@ -17,7 +19,7 @@ use window::{Marks, Position, is_duplicate};
 use wire::Fault;
 
 // What is answered of a message: whether it was no duplicate or had the last TTL, whether its link is best, and the route of its originator.
-#[derive(Drop)]
+#[derive(Clone, Copy)]
 pub struct Answer {
     pub fresh: bool,
     pub best: bool,
@@ -25,7 +27,7 @@ pub struct Answer {
 }
 
 // What becomes of a message to a record: counted, not counted, or refused as counting is.
-#[derive(Drop)]
+#[derive(Clone, Copy)]
 pub enum Heard {
     Counted(Answer),
     Uncounted(Answer),

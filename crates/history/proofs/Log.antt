@@ -1,7 +1,7 @@
 -- What one more counted OGM does to a log's current number and marks.
 use Prim.Native.Nat.{ℕ, ◌+◌, ◌-◌, ◌<◌, ◌≤◌}
 use mathlib.Core.Path.{◌≡◌, refl, sym, ap, ap₂, ◌∙◌}
-use mathlib.Core.Bool.{Bool, true, false, cond, ◌&&◌, ◌||◌, not, and_false}
+use mathlib.Core.Bool.{Bool, true, false, cond, ◌&&◌, ◌||◌, not, and-false}
 use lib.Dec.{eqb, leb, ltb}
 use native.Mathlib.Omega.{arith}
 use borrow.Author.Tests.{lt-ltb, eq-eqb, leb-true, leb-false, le-leb, not-true}
@@ -63,10 +63,10 @@ module _ (κ : Config) where
   -- a link that no OGM came by has no marks
   pub absent : (s : Log) (l n : ℕ) → elem l (log_links s) ≡ false → stays κ s l n ≡ false
   unfolding stays log_links
-  absent (one m) l n h = ap (λ (t : Bool). inside W (sequence_of m) n && (t && eqb n (sequence_of m))) (or_neither (eqb l m.link) false h).0 ∙ and_false (inside W (sequence_of m) n)
+  absent (one m) l n h = ap (λ (t : Bool). inside W (sequence_of m) n && (t && eqb n (sequence_of m))) (or_neither (eqb l m.link) false h).0 ∙ and-false (inside W (sequence_of m) n)
   absent (cons m s) l n h =
       let q : (eqb l m.link ≡ false) × (elem l (log_links s) ≡ false) = or_neither (eqb l m.link) (elem l (log_links s)) (sym (elem-put_key l m.link (log_links s)) ∙ h) in
-      ap₂ (λ (a b : Bool). inside W (current κ (cons m s)) n && ((a && eqb n (sequence_of m)) || b)) q.0 (absent s l n q.1) ∙ and_false (inside W (current κ (cons m s)) n)
+      ap₂ (λ (a b : Bool). inside W (current κ (cons m s)) n && ((a && eqb n (sequence_of m)) || b)) q.0 (absent s l n q.1) ∙ and-false (inside W (current κ (cons m s)) n)
 
   module _ (h : allowed κ ≡ true) where
     -- the number k below current lies in the window

@@ -1,7 +1,7 @@
 -- The neighbour rows of a table agree with the book's echoes.
 use Prim.Native.Nat.{ℕ, ◌+◌, ◌%◌, ◌<◌, ◌≤◌}
 use mathlib.Core.Path.{◌≡◌, refl, sym, ap, ap₂, ◌∙◌}
-use mathlib.Core.Bool.{Bool, true, false, cond, ◌&&◌, ◌||◌, not, and_true}
+use mathlib.Core.Bool.{Bool, true, false, cond, ◌&&◌, ◌||◌, not, and-true}
 use mathlib.Core.List.{List, ◌∷◌, ◌++◌, map}
 use lib.Dec.{ltb, eqb}
 use lib.ListN.{length, length-map}
@@ -80,7 +80,7 @@ module _ (κ : Config) (ns : Sends) where
               ∙ distance-step (last_sent κ ns i) n (last-lt κ ns fit i) (omega (arith, timeout-high κ h)) in
               ap (λ x. ltb x κ.settings.timeout) (sym q)
           go false d = let l : κ.settings.timeout ≤ n = ltb-false n κ.settings.timeout d in le-ltb (n + 1) κ.settings.timeout (omega arith)
-      stays-row j n false e = ap (λ x. ltb x κ.settings.timeout) (add-zero n) ∙ sym (and_true (ltb n κ.settings.timeout))
+      stays-row j n false e = ap (λ x. ltb x κ.settings.timeout) (add-zero n) ∙ sym (and-true (ltb n κ.settings.timeout))
 
       -- and keeps its number
       same_row : (j n : ℕ) (t : Bool) → eqb j i ≡ t → ltb (n + cond t 1 0) κ.settings.timeout ≡ true

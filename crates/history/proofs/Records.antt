@@ -1,7 +1,7 @@
 -- Counting one OGM on the record of a log gives the record of the longer log.
 use Prim.Native.Nat.{ℕ, ◌-◌, ◌<◌}
 use mathlib.Core.Path.{◌≡◌, refl, sym, ap, ap₂, ◌∙◌}
-use mathlib.Core.Bool.{Bool, true, false, cond, ◌&&◌, ◌||◌, not, and_false, or_false, true≢false}
+use mathlib.Core.Bool.{Bool, true, false, cond, ◌&&◌, ◌||◌, not, and-false, or-false, true≢false}
 use mathlib.Core.Option.{Option}
 use mathlib.Core.List.{List, [], ◌∷◌}
 use lib.Dec.{ltb, eqb, leb}
@@ -123,7 +123,7 @@ module _ (κ : Config) (h : allowed κ ≡ true) (m : Message) (s : Log) (timely
   unfolding log_count
   none-next l e q =
       tally-none (W κ) (λ k. stays κ (cons m s) l (distance c k))
-      (λ k g. next-stays l k false e g ∙ ap (λ (t : Bool). leb d k && t) (none_stays κ s l q (k - d) (omega arith)) ∙ and_false (leb d k))
+      (λ k g. next-stays l k false e g ∙ ap (λ (t : Bool). leb d k && t) (none_stays κ s l q (k - d) (omega arith)) ∙ and-false (leb d k))
 
   held_next : (l : ℕ) → eqb l m.link ≡ false → is_held κ s l ≡ false → is_held κ (cons m s) l ≡ false
   unfolding is_held log_best
@@ -143,7 +143,7 @@ module _ (κ : Config) (h : allowed κ ≡ true) (m : Message) (s : Log) (timely
   up_zero : up 0 ≡ 0
   up_zero =
       ap up (sym (word_none (W κ) (λ k. false) (λ k _. refl))) ∙ (word_laws (W κ)).shift_word (λ k. false) d
-      ∙ word_none (W κ) _ (λ k _. and_false (leb d k))
+      ∙ word_none (W κ) _ (λ k _. and-false (leb d k))
 
   word-before : marks_at (map_values up (record_of κ s).links) m.link ≡ up (marks_of κ s m.link)
   word-before =
@@ -198,7 +198,7 @@ module _ (κ : Config) (h : allowed κ ≡ true) (m : Message) where
       ap₂ mark (sym (word_none (W κ) (λ k. false) (λ k _. refl))) (distance_self (sequence_of m))
       ∙ (word_laws (W κ)).mark-word (λ k. false) 0 (window-low κ h)
       ∙ word_same (W κ) (λ k. eqb k 0 || false) (λ k. inside (W κ) (sequence_of m) (distance (sequence_of m) k) && (eqb m.link m.link && eqb (distance (sequence_of m) k) (sequence_of m)))
-      (λ k g. or_false (eqb k 0) ∙ sym (ap₂ (λ (a b : Bool). a && (b && eqb (distance (sequence_of m) k) (sequence_of m))) (inside-below κ h (sequence_of m) k (sequence-lt m) g) (eq-eqb m.link m.link refl)
+      (λ k g. or-false (eqb k 0) ∙ sym (ap₂ (λ (a b : Bool). a && (b && eqb (distance (sequence_of m) k) (sequence_of m))) (inside-below κ h (sequence_of m) k (sequence-lt m) g) (eq-eqb m.link m.link refl)
       ∙ distance_turn (sequence_of m) k (sequence_of m) (sequence-lt m) (sequence-lt m) (omega (arith, window-high κ h)) ∙ ap (eqb k) (distance_self (sequence_of m))))
 
   -- with best b and links ls

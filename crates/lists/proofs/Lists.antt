@@ -1,7 +1,7 @@
 -- Laws of `keep`, `all`, `first`, `map`, `elem` and `sum`.
 use Prim.Native.Nat.{ℕ, zero, suc, ◌+◌, ◌≤◌, ◌<◌}
 use mathlib.Core.Path.{◌≡◌, refl, sym, ap, ap₂, ◌∙◌}
-use mathlib.Core.Bool.{Bool, true, false, cond, ◌&&◌, ◌||◌, not, and_false, and_comm, and_assoc, or_assoc}
+use mathlib.Core.Bool.{Bool, true, false, cond, ◌&&◌, ◌||◌, not, and-false, and_comm, and_assoc, or_assoc}
 use mathlib.Core.Option.{Option, some}
 use mathlib.Core.List.{List, [], ◌∷◌, ◌++◌, map}
 use lib.Dec.{ltb, eqb}
@@ -137,7 +137,7 @@ module _ {A : Type 0} where
 
       go : (t : Bool) → cond t (some x) (first p xs) ≡ some y → (first p xs ≡ some y → rest ≡ some y) → cond (q x && t) (some x) rest ≡ some y
       go true g f = let d : x ≡ y = cc in ap (λ (t : Bool). cond (t && true) (some x) rest) (ap q d ∙ e) ∙ g
-      go false g f = ap (λ (t : Bool). cond t (some x) rest) (and_false (q x)) ∙ f g
+      go false g f = ap (λ (t : Bool). cond t (some x) rest) (and-false (q x)) ∙ f g
 
 -- ---- map
 
@@ -182,7 +182,7 @@ elem-keep p k (x ∷ xs) = go (eqb k x) refl (p x) refl (elem-keep p k xs)
     go : (t : Bool) → eqb k x ≡ t → (u : Bool) → p x ≡ u → elem k (keep p xs) ≡ (elem k xs && p k)
         → elem k (cond u (x ∷ keep p xs) (keep p xs)) ≡ ((t || elem k xs) && p k)
     go true e true d h = ap (λ (t : Bool). t || elem k (keep p xs)) e ∙ sym (ap p (eqb-true k x e) ∙ d)
-    go true e false d h = h ∙ ap (λ (t : Bool). elem k xs && t) (ap p (eqb-true k x e) ∙ d) ∙ and_false (elem k xs) ∙ sym (ap p (eqb-true k x e) ∙ d)
+    go true e false d h = h ∙ ap (λ (t : Bool). elem k xs && t) (ap p (eqb-true k x e) ∙ d) ∙ and-false (elem k xs) ∙ sym (ap p (eqb-true k x e) ∙ d)
     go false e true d h = ap (λ (t : Bool). t || elem k (keep p xs)) e ∙ h
     go false e false d h = h
 

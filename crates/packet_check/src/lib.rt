@@ -1,4 +1,6 @@
 // The packet check: refusals 5, 6, 7, 8 and 16, in this order, for any octets.
+#![tactic(auto)]
+
 ghost use Rattle.std.specs.Prelude.{◌≡◌, true, not, ◌||◌, ◌≤◌, ◌<◌, eqb};
 ghost use Rattle.wire.specs.Layout.{mask_most};
 ghost use Rattle.wire.specs.Check as C;
@@ -76,7 +78,7 @@ fn is_clean(hna: &[u8]) -> bool
 }
 
 // What each HNA entry is held to.
-#[derive(Drop)]
+#[derive(Clone, Copy)]
 pub enum EntryRule {
     // its mask is at most 32: refusal 8
     Mask,

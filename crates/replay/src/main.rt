@@ -1,4 +1,6 @@
 // Reads a script of calls on standard input, makes them in order on one table, and prints every answer.
+#![tactic(auto)]
+
 mod calls;
 mod session;
 

@@ -17,7 +17,7 @@ const LINE_END: u8 = b'\n';
 pub const GATHERED: usize = 65536;
 
 // What is kept from line to line.
-#[derive(Drop)]
+#[derive(Clone, Copy)]
 pub struct Session {
     // How many cells are lent to the calls.
     pub lent: usize,

@@ -47,6 +47,7 @@ module _ {A : Type 0} (asked due : A → List ℕ) where
   right x = same (asked x) (due x)
 
   pub each : (xs : List A) → all right xs ≡ true → (x : A) → Memᴰ x xs → asked x ≡ due x
+  each [] t x x4 = elim x4 [ ]
   each (y ∷ ys) t x (Memᴰ.head e) = subst (λ (z : A). asked z ≡ due z) (sym e) (same-eq (asked y) (due y) (and_left (right y) (all right ys) t))
   each (y ∷ ys) t x (Memᴰ.tail m) = each ys (and_right (right y) (all right ys) t) x m
 

@@ -1,7 +1,7 @@
 -- The lookup is a scan in table order with a best so far, which gives way only to a longer mask; and a network without host bits has one name.
 use Prim.Native.Nat.{ℕ, suc, ◌+◌, ◌-◌, ◌*◌, ◌^◌, ◌<◌}
 use mathlib.Core.Path.{◌≡◌, refl, sym, ap, ap₂, ◌∙◌}
-use mathlib.Core.Bool.{Bool, true, false, cond, ◌&&◌, ◌||◌, not, and_false, or_false}
+use mathlib.Core.Bool.{Bool, true, false, cond, ◌&&◌, ◌||◌, not, and-false, or-false}
 use mathlib.Core.Option.{Option, none, some}
 use mathlib.Core.List.{List, [], ◌∷◌, ◌++◌}
 use lib.Dec.{ltb, leb, eqb}
@@ -158,18 +158,18 @@ not-both x y = go (ltb x.originator y.originator) refl
         let l : x.place < y.place = ltb-true x.place y.place (and_right (eqb x.originator y.originator) _ h) in
         ap₂ (λ (s t : Bool). s || (eqb y.originator x.originator && t)) (le-ltb y.originator x.originator (omega arith))
         (le-ltb y.place x.place (omega arith))
-        ∙ and_false (eqb y.originator x.originator)
+        ∙ and-false (eqb y.originator x.originator)
 
 -- what stands behind goes before by a longer mask alone
 only_longer : (x y : Announced) → ahead x y ≡ true → not (goes_before y x) ≡ not (ltb (mask_in x) (mask_in y))
 only_longer x y h =
     ap (λ (t : Bool). not (ltb (mask_in x) (mask_in y) || (eqb (mask_in y) (mask_in x) && t))) (not-both x y h)
-    ∙ ap (λ (t : Bool). not (ltb (mask_in x) (mask_in y) || t)) (and_false (eqb (mask_in y) (mask_in x))) ∙ ap not (or_false (ltb (mask_in x) (mask_in y)))
+    ∙ ap (λ (t : Bool). not (ltb (mask_in x) (mask_in y) || t)) (and-false (eqb (mask_in y) (mask_in x))) ∙ ap not (or-false (ltb (mask_in x) (mask_in y)))
 
 -- none goes before itself
 not_itself : (x : Announced) → not (goes_before x x) ≡ true
 not_itself x =
-    simp (le-ltb (mask_in x) (mask_in x) (omega arith), le-ltb x.originator x.originator (omega arith), le-ltb x.place x.place (omega arith), and_false)
+    simp (le-ltb (mask_in x) (mask_in x) (omega arith), le-ltb x.originator x.originator (omega arith), le-ltb x.place x.place (omega arith), and-false)
 
 -- nor before one with a longer mask
 not-before_longer : (x y : Announced) → ltb (mask_in x) (mask_in y) ≡ true → not (goes_before x y) ≡ true

@@ -1,11 +1,13 @@
 // The plain structs that the calls take and answer. The definitions in specs/ see them as records, so rules and code share one type.
 
+#![tactic(auto)]
+
 pub mod limits;
 pub mod verdicts;
 
 // The settings of a table. They are wide, so that values that are not allowed can be given and refused.
 #[repr(C)]
-#[derive(Drop)]
+#[derive(Clone, Copy)]
 pub struct Settings {
     // The packet version.
     pub version: u64,
@@ -23,7 +25,7 @@ pub struct Settings {
 
 // An interface row: own address, broadcast address, first sequence number.
 #[repr(C)]
-#[derive(Drop)]
+#[derive(Clone, Copy)]
 pub struct Interface {
     pub own: u32,
     pub broadcast: u32,
@@ -32,7 +34,7 @@ pub struct Interface {
 
 // An originator message on its way to a record: the link that it came by, its sequence number, TTL and time. A further field is a line here. Its HNA
 // octets are lent beside it: a struct that holds a slice is not taken by the prover.
-#[derive(Drop)]
+#[derive(Clone, Copy)]
 pub struct Ogm {
     pub link: u64,
     pub sequence: u16,
@@ -41,7 +43,7 @@ pub struct Ogm {
 }
 
 // What counting is told of the settings: the window size W, and the tie.
-#[derive(Drop)]
+#[derive(Clone, Copy)]
 pub struct Policy {
     pub window: u64,
     pub tie: u64,
@@ -49,7 +51,7 @@ pub struct Policy {
 
 // What the best question answers. No route is all zeros.
 #[repr(C)]
-#[derive(Drop)]
+#[derive(Clone, Copy)]
 pub struct Route {
     pub neighbour: u32,
     pub interface: u32,
@@ -59,7 +61,7 @@ pub struct Route {
 
 // A row of the list call: one held link. `best` is 1 or 0 and no bool, so that a caller may lend rows that hold anything.
 #[repr(C)]
-#[derive(Drop)]
+#[derive(Clone, Copy)]
 pub struct LinkRow {
     pub neighbour: u32,
     pub interface: u32,
@@ -71,7 +73,7 @@ pub struct LinkRow {
 // The answer to a received packet: a refusal or verdict, the place that 8 and 16 carry, the route of the packet's originator, and the flags octet for the
 // other interfaces. The octet is last, so that the struct has no gap inside and is copied in whole words.
 #[repr(C)]
-#[derive(Drop)]
+#[derive(Clone, Copy)]
 pub struct Received {
     pub number: u64,
     pub place: u64,
@@ -81,7 +83,7 @@ pub struct Received {
 
 // The answer to an own packet: its length and sequence number.
 #[repr(C)]
-#[derive(Drop)]
+#[derive(Clone, Copy)]
 pub struct Written {
     pub number: u64,
     pub place: u64,
@@ -91,7 +93,7 @@ pub struct Written {
 
 // The answer to a sweep: how many records were removed.
 #[repr(C)]
-#[derive(Drop)]
+#[derive(Clone, Copy)]
 pub struct Swept {
     pub number: u64,
     pub removed: u64,
@@ -99,7 +101,7 @@ pub struct Swept {
 
 // The answer to the best question.
 #[repr(C)]
-#[derive(Drop)]
+#[derive(Clone, Copy)]
 pub struct Asked {
     pub number: u64,
     pub route: Route,
@@ -107,7 +109,7 @@ pub struct Asked {
 
 // The answer to a burst: how many octets were written.
 #[repr(C)]
-#[derive(Drop)]
+#[derive(Clone, Copy)]
 pub struct Burst {
     pub number: u64,
     pub written: u64,
@@ -115,7 +117,7 @@ pub struct Burst {
 
 // The answer to the lookup: whether an entry covers the address (1 or 0), and then its originator, its network as announced and its mask.
 #[repr(C)]
-#[derive(Drop)]
+#[derive(Clone, Copy)]
 pub struct Located {
     pub number: u64,
     pub found: u32,
@@ -126,7 +128,7 @@ pub struct Located {
 
 // The answer to the list call: how many rows were filled.
 #[repr(C)]
-#[derive(Drop)]
+#[derive(Clone, Copy)]
 pub struct Listed {
     pub number: u64,
     pub filled: u64,

@@ -1,5 +1,7 @@
 // Answers as lines of text: each function puts its lines behind the `used` octets of a text, and answers how many are then
 // used.
+#![tactic(auto)]
+
 use rules::limits::{LINKS_MOST, PACKETS_MOST};
 use rules::verdicts::PASSED_ON;
 use rules::{Asked, LinkRow, Located, Received, Route, Written};

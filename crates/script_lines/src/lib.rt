@@ -1,4 +1,6 @@
 // Lines of a script: put together from the pieces that are read, and each read as a call with its arguments.
+#![tactic(auto)]
+
 pub mod bursts;
 pub mod names;
 pub mod requests;

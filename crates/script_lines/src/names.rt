@@ -4,7 +4,7 @@ use script_words::same;
 const COMMENT: u8 = b'#';
 
 // What a line is: a call, nothing to do, or a line that cannot be read. A burst has lists too, and is read apart (`bursts`).
-#[derive(Drop)]
+#[derive(Clone, Copy)]
 pub enum Call {
     Receive,
     Own,

@@ -22,7 +22,7 @@ pub const OUTPUT_MOST: usize = 16384;
 const ROWS_MOST: u64 = 16;
 
 // The call that a line names, whether it is a burst, and where the name ends.
-#[derive(Drop)]
+#[derive(Clone, Copy)]
 pub struct Named {
     pub call: Call,
     pub burst: bool,

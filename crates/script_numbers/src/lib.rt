@@ -1,4 +1,6 @@
 // Decimal numbers: one word, the numbers with which a call's arguments begin, and lists of numbers.
+#![tactic(auto)]
+
 ghost use Rattle.std.specs.Prelude.{◌≡◌, false, ℕ, ◌%◌, ◌≤◌, ◌<◌, length, drop, get_or};
 ghost use Rattle.script_numbers.specs.Numbers as N;
 
@@ -26,7 +28,7 @@ const DIGIT_0: u8 = b'0';
 const DIGIT_9: u8 = b'9';
 
 // What a word is as a decimal number.
-#[derive(Drop)]
+#[derive(Clone, Copy)]
 pub enum Number {
     Is(u64),
     Bad,

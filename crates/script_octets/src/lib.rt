@@ -1,4 +1,6 @@
 // Octets in lower-case hex.
+#![tactic(auto)]
+
 ghost use Rattle.std.specs.Prelude.{◌≡◌, false, ◌/◌, ◌≤◌, length, drop};
 ghost use Rattle.script_octets.specs.Octets as O;
 
@@ -9,21 +11,21 @@ const BASE: u8 = 16;
 const NO_OCTETS: u8 = b'-';
 
 // A hex digit's value.
-#[derive(Drop)]
+#[derive(Clone, Copy)]
 pub enum Digit {
     Is(u8),
     Bad,
 }
 
 // How many octets were read. `good` is false where the word could not be read.
-#[derive(Drop)]
+#[derive(Clone, Copy)]
 pub struct Octets {
     pub count: usize,
     pub good: bool,
 }
 
 // The same of a line's next word, and where this word ends.
-#[derive(Drop)]
+#[derive(Clone, Copy)]
 pub struct NextOctets {
     pub count: usize,
     pub end: usize,

@@ -1,5 +1,7 @@
 // Text, gathered in a lent buffer. Each function puts something behind the `used` octets of a text, and answers how many
 // are then used. A full text takes no more: whoever lends it writes it out in time.
+#![tactic(auto)]
+
 ghost use Rattle.std.specs.Prelude.{◌≡◌, ◌<◌};
 ghost use Rattle.io.specs.Digits.{hex_digit_ascii};
 

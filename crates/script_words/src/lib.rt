@@ -1,11 +1,13 @@
 // The words of a line: runs of octets that are no spaces.
+#![tactic(auto)]
+
 ghost use Rattle.std.specs.Prelude.{◌≡◌, true, [], ◌≤◌, length, drop};
 ghost use Rattle.script_words.specs.Words.{from_word, behind, NextWord};
 
 pub const SPACE: u8 = b' ';
 
 // Where a word begins and ends. They are equal where no word is left.
-#[derive(Drop)]
+#[derive(Clone, Copy)]
 pub struct Word {
     pub start: usize,
     pub end: usize,

@@ -1,7 +1,7 @@
 -- A turn of the check's loops. Assumes nothing.
 use mathlib.Core.Path.{◌≡◌, refl, sym, ap, ◌∙◌}
 use mathlib.Core.List.{List, []}
-use mathlib.Core.Bool.{Bool, true, false, cond, ◌&&◌, and_true}
+use mathlib.Core.Bool.{Bool, true, false, cond, ◌&&◌, and-true}
 use mathlib.Core.Option.{Option, none, some}
 use Prim.Native.Nat.{ℕ, ◌+◌, ◌*◌, ◌-◌, ◌%◌, ◌≤◌, ◌<◌}
 use native.Mathlib.Nat.{zero-add}
@@ -67,7 +67,7 @@ module _ (c : List ℕ) (pair number : ℕ) where
 
   after-sent : (d : ℕ) → number < numbers → d ≡ distance (get_or c (place + last_at) 0) number → (b : Bool) → b && ltb d (get_or c timeout_at 0) ≡ after_use (stands b)
   after-sent d hn ed true =
-      ap (λ (x : ℕ). ltb x (get_or c timeout_at 0)) ed ∙ sym (and_true (ltb (distance (get_or c (place + last_at) 0) number) (get_or c timeout_at 0)))
+      ap (λ (x : ℕ). ltb x (get_or c timeout_at 0)) ed ∙ sym (and-true (ltb (distance (get_or c (place + last_at) 0) number) (get_or c timeout_at 0)))
       ∙ ap (λ (b : Bool). b && (ltb (distance (get_or c (place + last_at) 0) number) (get_or c timeout_at 0) && true)) (sym (lt-ltb number numbers hn))
   after-sent d hn ed false = refl
 

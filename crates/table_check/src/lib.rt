@@ -1,4 +1,6 @@
 // The check of a whole table, which every call but make and packet check begins with.
+#![tactic(auto)]
+
 ghost use Rattle.std.specs.Prelude.{◌≡◌, cond, ℕ, ◌*◌, ◌≤◌, ◌<◌, ltb, length, get_or};
 ghost use Rattle.lists.specs.Lists.{and};
 ghost use Rattle.rules.specs.Settings.{Config, interface_most, record_cells};

@@ -1,5 +1,7 @@
 // The layout of a table in its cells: docs/LAYOUT.md.
 
+#![tactic(auto)]
+
 use rules::limits::{INTERFACES_MOST, NEIGHBOURS_MOST};
 
 // The places in the head: the settings, then interfaces in use, time, neighbour rows held, originators held.

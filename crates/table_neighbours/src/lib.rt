@@ -1,4 +1,6 @@
 // The neighbour rows in their area of cells: found, recorded and dropped.
+#![tactic(auto)]
+
 ghost use Rattle.std.specs.Prelude.{◌≡◌, ◌+◌, ◌<◌, length};
 ghost use Rattle.lists.specs.Lists.{keep, all};
 ghost use Rattle.lists.specs.Keyed.{has_key};
@@ -18,7 +20,7 @@ const ROW: usize = PAIR;
 const ROOM: usize = NEIGHBOURS_MOST as usize;
 
 // How many rows are held after an echo, or that there is no room for one more.
-#[derive(Drop)]
+#[derive(Clone, Copy)]
 pub enum Echo {
     Rows(usize),
     Full,

@@ -1,4 +1,6 @@
 // The originators' records in a table's cells: found by address, told of a message, and made.
+#![tactic(auto)]
+
 ghost use Rattle.std.specs.Prelude.{◌≡◌, true, false, ℕ, ◌<◌, ◌≤◌, get_or};
 ghost use Rattle.window.specs.Window.{is_stale};
 ghost use Rattle.wire.specs.Check.{entries};

@@ -1,4 +1,6 @@
 // One originator's record in its cells: where its parts stand, its links and entries, and the route that it gives.
+#![tactic(auto)]
+
 ghost use Rattle.std.specs.Prelude.{◌≡◌, ◌+◌, ◌*◌, ◌≤◌, ◌<◌, length};
 ghost use Rattle.std.proofs.Math.Option.{some};
 ghost use Rattle.cells.specs.Area.{written};

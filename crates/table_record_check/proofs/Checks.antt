@@ -1,7 +1,7 @@
 -- The check of a record is the tests of RULES 5.3 on it. Assumes nothing.
 use mathlib.Core.Path.{◌≡◌, refl, sym, ap, ◌∙◌}
 use mathlib.Core.List.{List, ◌∷◌}
-use mathlib.Core.Bool.{Bool, true, false, false≢true, cond, ◌&&◌, ◌||◌, not, and_true, and_assoc, or_assoc, or_false}
+use mathlib.Core.Bool.{Bool, true, false, false≢true, cond, ◌&&◌, ◌||◌, not, and-true, and_assoc, or_assoc, or-false}
 use mathlib.Core.Option.{some}
 use Prim.Native.Nat.{ℕ, zero, suc, ◌+◌, ◌*◌, ◌-◌, ◌/◌, ◌%◌, ◌^◌, ◌≤◌, ◌<◌}
 use native.Mathlib.Nat.{sub-zero}
@@ -59,7 +59,7 @@ link-tests κ now l d low pair marks best =
     let fit = marks_ok l.window best pair marks in
     and_assoc (leb low pair) (ltb pair pairs && ltb (pair % interface_most) l.used) fit
     ∙ ap (λ (b : Bool). leb low pair && b) (and_assoc (ltb pair pairs) (ltb (pair % interface_most) l.used) fit)
-    ∙ (λ i. leb low pair && (small-pair pair i && (ltb (pair % interface_most) (d.used i) && (ltb marks (2 ^ d.window i) && sym (and_true (has_mark marks || eqb pair best)) i))))
+    ∙ (λ i. leb low pair && (small-pair pair i && (ltb (pair % interface_most) (d.used i) && (ltb marks (2 ^ d.window i) && sym (and-true (has_mark marks || eqb pair best)) i))))
 
 -- ---- the links
 
@@ -108,7 +108,7 @@ module _ (best : ℕ) (held : Bool) (part : List ℕ) (n i : ℕ) where
       (ap (λ (k : ℕ). eqb best k || has_key best (links_left n part (i + 1))) ep ∙ sym (ap (has_key best) (left_one n part i h) ∙ has_cons best (link_at part i) (links_left n part (i + 1))))
 
   pub held_end : n ≤ i → held ≡ held || has_key best (links_left n part i)
-  held_end h = sym (or_false held) ∙ ap (λ (l : List (ℕ × ℕ)). held || has_key best l) (sym (left-none n part i h))
+  held_end h = sym (or-false held) ∙ ap (λ (l : List (ℕ × ℕ)). held || has_key best l) (sym (left-none n part i h))
 
 pub links-done : (κ : Config) (best : ℕ) (part : List ℕ) (n : ℕ) (t h : Bool) → t ≡ links_from_lem κ best 0 part n 0 → (t ≡ true → h ≡ has_key best (links_left n part 0)) → t && h ≡ links_ok κ best (links_from n part)
 links-done κ best part n t h et eh =
@@ -118,7 +118,7 @@ links-done κ best part n t h et eh =
     et ∙ ap (λ (k : ℕ). scan (row_ok κ best) 0 (rows_of link_cells k part)) (sub-zero n) ∙ scan_is link_in link-key (row_ok κ best) rows
     ∙ ap (λ (b : Bool). rising ls && b) (sym (all_map link_in (λ l. and (link_tests κ best l)) rows)) in
     go t h (λ e. eh e ∙ ap (has_key best) (left-all n part)) ∙ ap (λ (b : Bool). b && has_key best ls) s
-    ∙ and_assoc (rising ls) (all (λ l. and (link_tests κ best l)) ls) (has_key best ls) ∙ ap (λ (b : Bool). rising ls && (all (λ l. and (link_tests κ best l)) ls && b)) (sym (and_true (has_key best ls)))
+    ∙ and_assoc (rising ls) (all (λ l. and (link_tests κ best l)) ls) (has_key best ls) ∙ ap (λ (b : Bool). rising ls && (all (λ l. and (link_tests κ best l)) ls && b)) (sym (and-true (has_key best ls)))
   where
     go : (t h : Bool) → (t ≡ true → h ≡ has_key best (links_from n part)) → t && h ≡ t && has_key best (links_from n part)
     go true h eh = eh refl

@@ -1,4 +1,6 @@
 // The check of one originator's record, which the check of a table makes of each.
+#![tactic(auto)]
+
 ghost use Rattle.std.specs.Prelude.{◌≡◌, ℕ, ◌*◌, ◌≤◌, eqb, length, get_or};
 ghost use Rattle.lists.specs.Lists.{and, elem};
 ghost use Rattle.cells.specs.Area.{fit};
@@ -21,7 +23,7 @@ use window::{Marks, NUMBERS, fits, has_mark};
 use wire::MASK_MOST;
 
 // What a record is held to: window, interfaces in use, the table's time, and the own addresses, the first again for each that is not in use.
-#[derive(Drop)]
+#[derive(Clone, Copy)]
 pub struct Limits {
     pub window: u64,
     pub used: u64,

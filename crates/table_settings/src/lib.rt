@@ -1,4 +1,6 @@
 // Settings and interface rows: what make is given, and what the cells hold of them.
+#![tactic(auto)]
+
 ghost use Rattle.std.specs.Prelude.{◌≡◌, ◌&&◌, [], ◌∷◌, ◌*◌, ◌≤◌, length, take, drop};
 ghost use Rattle.lists.specs.Lists.{all};
 ghost use Rattle.cells.specs.Area.{all_zero, rows_of};

@@ -1,4 +1,6 @@
 // Sequence numbers modulo 65,536 and a link's window of marks.
+#![tactic(auto)]
+
 ghost use Rattle.std.specs.Prelude.{◌≡◌, true, ◌&&◌, ◌≤◌, ◌<◌, ◌^◌, ltb};
 ghost use Rattle.window.specs.Window as W;
 ghost use Rattle.window.specs.Marks.{word_bits, word_of};
@@ -13,7 +15,7 @@ pub const NUMBERS: u64 = 65536;
 const HALF_WAY: u64 = NUMBERS / 2;
 
 // Where a number lies beside a window.
-#[derive(Drop)]
+#[derive(Clone, Copy)]
 pub enum Position {
     New,
     Inside,
@@ -21,7 +23,7 @@ pub enum Position {
 }
 
 // A link's marks: bit k of the word is the mark of the number k below current.
-#[derive(Drop)]
+#[derive(Clone, Copy)]
 pub struct Marks {
     pub word: u64,
 }

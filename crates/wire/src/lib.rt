@@ -1,4 +1,6 @@
 // The octets on the air: what a packet says, and what is refused of it.
+#![tactic(auto)]
+
 pub mod refusals;
 
 ghost use Rattle.std.specs.Prelude.{◌≡◌};
@@ -6,7 +8,7 @@ ghost use Rattle.wire.specs.Check.{numbered, placed};
 
 // The originator message with which a packet begins.
 #[repr(C)]
-#[derive(Drop)]
+#[derive(Clone, Copy)]
 pub struct Header {
     pub version: u8,
     pub flags: u8,
@@ -18,14 +20,14 @@ pub struct Header {
 }
 
 // A refusal: its number, and the place that 8 and 16 carry, else 0. Both are 0 where there is none.
-#[derive(Drop)]
+#[derive(Clone, Copy)]
 pub struct Fault {
     pub number: u64,
     pub place: u64,
 }
 
 // The place of an HNA entry, from 0, or none.
-#[derive(Drop)]
+#[derive(Clone, Copy)]
 pub enum Place {
     At(usize),
     Nowhere,

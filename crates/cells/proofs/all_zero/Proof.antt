@@ -1,7 +1,7 @@
 -- The joined bits are 0 exactly where every cell is: the loop's invariant is that the bits so far and the cells to come are zero exactly where all are.
 use borrow.Author.Rules.{rules}
 use mathlib.Core.Path.{◌≡◌, refl, sym, ap, ◌∙◌}
-use mathlib.Core.Bool.{Bool, ◌&&◌, and_true}
+use mathlib.Core.Bool.{Bool, ◌&&◌, and-true}
 use Prim.Native.Nat.{◌-◌, ◌≤◌}
 use native.Mathlib.Omega.{arith}
 use lib.Dec.{eqb}
@@ -29,7 +29,7 @@ returns : tie.Need-returns invariant-loop decreases-loop
 returns c =
     let l = c.before.loop in
     let xs = c.before.before.args.cells.now in
-    sym (and_true (eqb l.bits 0)) ∙ ap (λ (b : Bool). eqb l.bits 0 && b) (sym (joined_end (λ x. eqb x 0) xs l.i (omega arith))) ∙ l.invariant.1
+    sym (and-true (eqb l.bits 0)) ∙ ap (λ (b : Bool). eqb l.bits 0 && b) (sym (joined_end (λ x. eqb x 0) xs l.i (omega arith))) ∙ l.invariant.1
 
 pub all-zero-spec : {M : Type 1} → statement M
 all-zero-spec = tie.close (tie.spec invariant-loop decreases-loop loop-holds (λ c. search rules) (λ c. search rules) (λ c. search rules) (λ c. search rules) loop-again returns)

@@ -1,7 +1,7 @@
 -- `entries_ok`: the faults so far are none and the entries to come pass exactly where all do.
 use borrow.Author.Rules.{rules}
 use mathlib.Core.Path.{◌≡◌, refl, sym, ap, ◌∙◌}
-use mathlib.Core.Bool.{Bool, ◌&&◌, and_true}
+use mathlib.Core.Bool.{Bool, ◌&&◌, and-true}
 use Prim.Native.Nat.{ℕ, ◌-◌, ◌≤◌}
 use native.Mathlib.Omega.{arith}
 use lib.Dec.{eqb}
@@ -36,7 +36,7 @@ returns c =
     let l = c.before.loop in
     let a = c.before.before.before.args in
     let es = fit a.n a.part.now in
-    sym (and_true (eqb l.bits 0)) ∙ ap (λ (b : Bool). eqb l.bits 0 && b) (sym (joined_end (λ x. and (entry_tests x)) es l.i (omega (arith, length-fit a.n a.part.now)))) ∙ l.invariant.1
+    sym (and-true (eqb l.bits 0)) ∙ ap (λ (b : Bool). eqb l.bits 0 && b) (sym (joined_end (λ x. and (entry_tests x)) es l.i (omega (arith, length-fit a.n a.part.now)))) ∙ l.invariant.1
 
 pub entries-ok-spec : {M : Type 1} → statement M
 entries-ok-spec =

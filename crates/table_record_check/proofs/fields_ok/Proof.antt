@@ -3,7 +3,7 @@ use borrow.Author.Rules.{rules}
 use borrow.Author.Tests.{ltb-true, leb-true}
 use Rattle.lists.proofs.Tests.{and_left, and_right}
 use mathlib.Core.Path.{sym, ◌∙◌}
-use mathlib.Core.Bool.{◌&&◌, not, and_true, and_assoc}
+use mathlib.Core.Bool.{◌&&◌, not, and-true, and_assoc}
 use lib.Dec.{leb}
 use lib.ListN.{get_or}
 use Rattle.rules.specs.Settings.{link_most, entry_most, addresses, is_address, is_number, is_octet, within}
@@ -36,7 +36,7 @@ returns c =
           let mine = own.ensures ∙ d.own address in
           let held = sym (length-links n (links_part row)) in
           let kept = sym (length-fit m (entries_part row)) in
-          λ i. leb a.low address && (is_address address && (not (mine i) && (is_number (get_or row current_at 0) && (leb (get_or row time_at 0) (d.time i) && (is_octet (get_or row last_ttl_at 0) && (sym (and_assoc (leb 1 n) (leb n link_most) (leb m entry_most)) ∙ (λ j. within 1 link_most (held j) && sym (and_true (leb (kept j) entry_most)) j)) i)))));
+          λ i. leb a.low address && (is_address address && (not (mine i) && (is_number (get_or row current_at 0) && (leb (get_or row time_at 0) (d.time i) && (is_octet (get_or row last_ttl_at 0) && (sym (and_assoc (leb 1 n) (leb n link_most) (leb m entry_most)) ∙ (λ j. within 1 link_most (held j) && sym (and-true (leb (kept j) entry_most)) j)) i)))));
     }
 
 pub fields-ok-spec : {M : Type 1} → statement M
