@@ -36,8 +36,8 @@ records_at = setting_cells + 3
 
 -- ---- the places in an interface row
 
-abbrev pub field_own : ℕ
-field_own = 0
+abbrev pub own_at : ℕ
+own_at = 0
 
 abbrev pub broadcast_at : ℕ
 broadcast_at = 1
