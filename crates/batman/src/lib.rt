@@ -1,4 +1,4 @@
-// The C interface: each function here is exported from the archive, and none has a `requires`.
+// The calls of batman.h, for programs in Rattle; crate batman_c exports each to C under the same name. None has a `requires`.
 #![tactic(auto)]
 
 ghost use Rattle.std.specs.Prelude.{◌≡◌};
@@ -23,24 +23,21 @@ pub struct Interfaces {
 }
 
 // The packet check: 0 for a packet without fault, else the refusal number, and for refusal 8 that number plus 256 times the place.
-#[unsafe(no_mangle)]
-pub extern "C" fn batman_packet_check(packet: &[u8], version: u64) -> u64
+pub fn batman_packet_check(packet: &[u8], version: u64) -> u64
     ensures { result ≡ packet_check version packet.now }
 {
     packet_check::packet_check(packet, version)
 }
 
 // How many cells a capacity needs; 0 for one that is not allowed.
-#[unsafe(no_mangle)]
-pub extern "C" fn batman_cells_needed(capacity: u64) -> u64
+pub fn batman_cells_needed(capacity: u64) -> u64
     ensures { result ≡ needed_for capacity }
 {
     call_make::cells_needed(capacity)
 }
 
 // Makes a fresh table in all the cells given, or answers 12.
-#[unsafe(no_mangle)]
-pub extern "C" fn batman_make(cells: &mut [u64], settings: Settings, interfaces: Interfaces) -> u64
+pub fn batman_make(cells: &mut [u64], settings: Settings, interfaces: Interfaces) -> u64
     ensures { Promised cells.old (C.make (make_args settings interfaces.row interfaces.used)) (C.answered (C.made result)) cells.new }
 {
     let rows = interfaces.row;
@@ -48,8 +45,7 @@ pub extern "C" fn batman_make(cells: &mut [u64], settings: Settings, interfaces:
 }
 
 // Judges a received packet: what it is counted as, whether it is passed on, and the route to its originator.
-#[unsafe(no_mangle)]
-pub extern "C" fn batman_receive(
+pub fn batman_receive(
     cells: &mut [u64],
     packet: &[u8],
     sender: u32,
@@ -63,8 +59,7 @@ pub extern "C" fn batman_receive(
 }
 
 // Judges the packets of a burst one after the other, as `batman_receive` does, after one check of the table.
-#[unsafe(no_mangle)]
-pub extern "C" fn batman_receive_burst(
+pub fn batman_receive_burst(
     cells: &mut [u64],
     octets: &[u8],
     lengths: &[u64],
@@ -78,16 +73,16 @@ pub extern "C" fn batman_receive_burst(
 {
     let room = answers.len();
     let got = call_burst::burst(cells, octets, lengths, senders, interfaces, time, out, room);
-    call_burst_rows::fill_answers(answers, got);
-    Burst {
+    let answer = Burst {
         number: got.number,
         written: got.written,
-    }
+    };
+    call_burst_rows::fill_answers(answers, got);
+    answer
 }
 
 // Writes an interface's next own packet at the start of the output.
-#[unsafe(no_mangle)]
-pub extern "C" fn batman_own_packet(
+pub fn batman_own_packet(
     cells: &mut [u64],
     interface: u64,
     time: u64,
@@ -103,39 +98,36 @@ pub extern "C" fn batman_own_packet(
 }
 
 // Removes the records whose time is more than the purge timeout ago.
-#[unsafe(no_mangle)]
-pub extern "C" fn batman_sweep(cells: &mut [u64], time: u64) -> Swept
+pub fn batman_sweep(cells: &mut [u64], time: u64) -> Swept
     ensures { Promised cells.old (C.sweep time) (C.answered (C.swept result)) cells.new }
 {
     call_sweep::sweep(cells, time)
 }
 
 // The best link to an originator.
-#[unsafe(no_mangle)]
-pub extern "C" fn batman_best(cells: &[u64], originator: u32) -> Asked
+pub fn batman_best(cells: &[u64], originator: u32) -> Asked
     ensures { Promised cells.now (C.question originator) (C.answered (C.asked result)) cells.now }
 {
     call_best::best(cells, originator)
 }
 
 // Which originator's entry covers an address: the longest mask, then the smaller originator address, then the earlier entry.
-#[unsafe(no_mangle)]
-pub extern "C" fn batman_lookup(cells: &[u64], address: u32) -> Located
+pub fn batman_lookup(cells: &[u64], address: u32) -> Located
     ensures { Promised cells.now (C.locate address) (C.answered (C.located result)) cells.now }
 {
     call_lookup::lookup(cells, address)
 }
 
 // Fills the caller's rows, one for each link held to an originator, in table order. Further rows stay as they are.
-#[unsafe(no_mangle)]
-pub extern "C" fn batman_list(cells: &[u64], originator: u32, rows: &mut [LinkRow]) -> Listed
+pub fn batman_list(cells: &[u64], originator: u32, rows: &mut [LinkRow]) -> Listed
     ensures { Promised cells.now (C.list originator rows.old) (C.answered_filling (C.listed result) rows.new) cells.now }
 {
     let room = rows.len();
     let got = call_list::links_of(cells, originator, room);
-    call_list::fill_rows(rows, got);
-    Listed {
+    let answer = Listed {
         number: got.number,
         filled: got.n as u64,
-    }
+    };
+    call_list::fill_rows(rows, got);
+    answer
 }

@@ -1,0 +1,121 @@
+// The C interface: each function here is exported from the archive under its own name, and does what crate batman's function of that name does. None has a `requires`.
+#![tactic(auto)]
+
+ghost use Rattle.std.specs.Prelude.{◌≡◌};
+ghost use Rattle.wire.specs.Check.{packet_check};
+ghost use Rattle.rules.specs.Calls as C;
+ghost use Rattle.table_layout.specs.Calls.{Promised};
+ghost use Rattle.call_make.specs.Make.{make_args, needed_for};
+ghost use Rattle.call_receive_arrival.specs.Receiving.{args_of};
+ghost use Rattle.call_burst.specs.Bursts.{burst_args};
+ghost use Rattle.call_own_packet_checks.specs.OwnPacket.{args};
+
+use batman::Interfaces;
+use rules::{Asked, Burst, LinkRow, Listed, Located, Received, Settings, Swept, Written};
+
+// The packet check: 0 for a packet without fault, else the refusal number, and for refusal 8 that number plus 256 times the place.
+#[unsafe(no_mangle)]
+pub extern "C" fn batman_packet_check(packet: &[u8], version: u64) -> u64
+    ensures { result ≡ packet_check version packet.now }
+{
+    batman::batman_packet_check(packet, version)
+}
+
+// How many cells a capacity needs; 0 for one that is not allowed.
+#[unsafe(no_mangle)]
+pub extern "C" fn batman_cells_needed(capacity: u64) -> u64
+    ensures { result ≡ needed_for capacity }
+{
+    batman::batman_cells_needed(capacity)
+}
+
+// Makes a fresh table in all the cells given, or answers 12.
+#[unsafe(no_mangle)]
+pub extern "C" fn batman_make(cells: &mut [u64], settings: Settings, interfaces: Interfaces) -> u64
+    ensures { Promised cells.old (C.make (make_args settings interfaces.row interfaces.used)) (C.answered (C.made result)) cells.new }
+{
+    batman::batman_make(cells, settings, interfaces)
+}
+
+// Judges a received packet: what it is counted as, whether it is passed on, and the route to its originator.
+#[unsafe(no_mangle)]
+pub extern "C" fn batman_receive(
+    cells: &mut [u64],
+    packet: &[u8],
+    sender: u32,
+    interface: u64,
+    time: u64,
+    out: &mut [u8],
+) -> Received
+    ensures { Promised cells.old (C.receive (args_of packet.now sender interface time out.old)) (C.answered_writing (C.received result) out.new) cells.new }
+{
+    batman::batman_receive(cells, packet, sender, interface, time, out)
+}
+
+// Judges the packets of a burst one after the other, as `batman_receive` does, after one check of the table.
+#[unsafe(no_mangle)]
+pub extern "C" fn batman_receive_burst(
+    cells: &mut [u64],
+    octets: &[u8],
+    lengths: &[u64],
+    senders: &[u32],
+    interfaces: &[u64],
+    time: u64,
+    out: &mut [u8],
+    answers: &mut [Received],
+) -> Burst
+    ensures { Promised cells.old (C.burst (burst_args octets.now lengths.now senders.now interfaces.now time out.old answers.old)) (C.answered_each (C.burst_received result) out.new answers.new) cells.new }
+{
+    batman::batman_receive_burst(
+        cells, octets, lengths, senders, interfaces, time, out, answers,
+    )
+}
+
+// Writes an interface's next own packet at the start of the output.
+#[unsafe(no_mangle)]
+pub extern "C" fn batman_own_packet(
+    cells: &mut [u64],
+    interface: u64,
+    time: u64,
+    ttl: u8,
+    gateway: u8,
+    port: u16,
+    hna: &[u8],
+    out: &mut [u8],
+) -> Written
+    ensures { Promised cells.old (C.own (args interface time ttl gateway port hna.now out.old)) (C.answered_writing (C.written result) out.new) cells.new }
+{
+    batman::batman_own_packet(cells, interface, time, ttl, gateway, port, hna, out)
+}
+
+// Removes the records whose time is more than the purge timeout ago.
+#[unsafe(no_mangle)]
+pub extern "C" fn batman_sweep(cells: &mut [u64], time: u64) -> Swept
+    ensures { Promised cells.old (C.sweep time) (C.answered (C.swept result)) cells.new }
+{
+    batman::batman_sweep(cells, time)
+}
+
+// The best link to an originator.
+#[unsafe(no_mangle)]
+pub extern "C" fn batman_best(cells: &[u64], originator: u32) -> Asked
+    ensures { Promised cells.now (C.question originator) (C.answered (C.asked result)) cells.now }
+{
+    batman::batman_best(cells, originator)
+}
+
+// Which originator's entry covers an address: the longest mask, then the smaller originator address, then the earlier entry.
+#[unsafe(no_mangle)]
+pub extern "C" fn batman_lookup(cells: &[u64], address: u32) -> Located
+    ensures { Promised cells.now (C.locate address) (C.answered (C.located result)) cells.now }
+{
+    batman::batman_lookup(cells, address)
+}
+
+// Fills the caller's rows, one for each link held to an originator, in table order. Further rows stay as they are.
+#[unsafe(no_mangle)]
+pub extern "C" fn batman_list(cells: &[u64], originator: u32, rows: &mut [LinkRow]) -> Listed
+    ensures { Promised cells.now (C.list originator rows.old) (C.answered_filling (C.listed result) rows.new) cells.now }
+{
+    batman::batman_list(cells, originator, rows)
+}
