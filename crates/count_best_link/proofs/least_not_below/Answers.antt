@@ -7,19 +7,15 @@ use mathlib.Core.Bool.{cond}
 use lib.Dec.{eqb, leb, ltb, leb-suc-suc}
 use Rattle.rules.specs.Settings.{newest_wins, tie_most}
 use Rattle.rules.specs.Rules.{stands_below}
-use Rattle.count_best_link.proofs.least_not_below.Statement.{statement}
-use Rattle.count_best_link.proofs.least_not_below.Tie as tie
+use Rattle.count_best_link.proofs.least_not_below.Goals as goal
 
 lower : (t x y : ℕ) → t ≤ tie_most → ltb x (y + 1 - t) ≡ cond (eqb t newest_wins) (leb x y) (ltb x y)
 lower zero x y h = ap (λ n. leb (suc x) n) (omega arith) ∙ leb-suc-suc x y
 lower (suc zero) x y h = ap (λ n. ltb x n) (omega arith)
 lower (suc (suc t)) x y h = absurd (omega arith)
 
-returns : tie.Need-returns
+pub returns : goal.returns
 unfolding stands_below
 returns c κ f x =
-    let a = c.before.args in
-    lower a.p.tie x a.high c.before.requires.tie ∙ ap (λ (t : ℕ). cond (eqb t newest_wins) (leb x a.high) (ltb x a.high)) f.tie
-
-pub least-not-below-spec : {M : Type 1} → statement M
-least-not-below-spec = tie.close (tie.spec (λ c. search rules) (λ c. search rules) returns)
+    let a = c.args in
+    lower a.p.tie x a.high c.requires.tie ∙ ap (λ (t : ℕ). cond (eqb t newest_wins) (leb x a.high) (ltb x a.high)) f.tie
