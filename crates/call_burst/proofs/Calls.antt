@@ -3,7 +3,6 @@ use Prim.Native.Nat.{ℕ, ◌≤◌, ◌<◌}
 use mathlib.Core.Path.{◌≡◌, refl, sym, ap, ◌∙◌, subst}
 use mathlib.Core.Bool.{Bool, true, false, not}
 use mathlib.Core.List.{List, []}
-use lib.Dec.{leb, eqb}
 use lib.ListN.{length, take, get_or, replicate, length-replicate}
 use native.Mathlib.Omega.{arith}
 use borrow.Author.Tests.{leb-true, eqb-true, lt-ltb}
@@ -13,12 +12,12 @@ use Rattle.lists.proofs.Lists.{all-below}
 use Rattle.wire.specs.Check.{numbered, given}
 use Rattle.rules.specs.declared.Received.{Received}
 use Rattle.rules.specs.Settings.{packets_most, octets, addresses}
-use Rattle.rules.specs.Calls.{BurstArgs, burst, burst_received, burst_as, Reply, answered_each, refusal}
+use Rattle.rules.specs.Calls.{BurstArgs, burst, burst_received, burst_as, answered_each, refusal}
 use Rattle.rules.specs.Rules.{Each, burst_tests, burst_fits, burst_reply, unless, refuse, take_burst, step}
 use Rattle.rules.specs.Table.{table}
 use Rattle.rules.specs.WellFormed as R
 use Rattle.table_layout.specs.Cells.{decode, well_formed}
-use Rattle.table_layout.specs.Calls.{Done, call_on, burst_in, Performed, Promised}
+use Rattle.table_layout.specs.Calls.{Done, Performed, Promised}
 use Rattle.table_layout.specs.Facts.{Knows}
 use Rattle.table_layout.proofs.Bursts.{as_singles}
 use Rattle.table_check.proofs.Knowing.{well_formed_lem}
@@ -26,7 +25,7 @@ use Rattle.table_changes.proofs.Performing.{not-asked, refuses}
 use Rattle.call_burst_checks.specs.Sizes.{Sizes}
 use Rattle.call_burst_rows.specs.declared.Answers.{Answers}
 use Rattle.call_burst_rows.specs.Answers.{no_answer}
-use Rattle.call_burst.specs.Bursts.{burst_args, Enough, Receives, AnswersNone, answer_of, reply_of, Settles}
+use Rattle.call_burst.specs.Bursts.{burst_args, Enough, Receives, AnswersNone, answer_of, Settles}
 
 module _ (c b ns ss is : List ℕ) (t : ℕ) (o : List ℕ) (room : ℕ) where
   abbrev args : List Received → BurstArgs

@@ -1,8 +1,8 @@
 -- The packets of a burst, turn by turn: what is done, and with what is left to do it makes the whole. Assumes nothing.
 use Prim.Native.Nat.{ℕ, suc, ◌+◌, ◌≤◌, ◌<◌}
 use mathlib.Core.Path.{◌≡◌, refl, sym, ap, ◌∙◌, subst}
-use mathlib.Core.Bool.{Bool, true, false, cond}
-use mathlib.Core.List.{List, [], ◌∷◌, ◌++◌, append_assoc, append-nil}
+use mathlib.Core.Bool.{cond}
+use mathlib.Core.List.{List, ◌∷◌, ◌++◌, append_assoc, append-nil}
 use lib.Dec.{eqb}
 use lib.ListN.{length, get_or, set, take, drop, length-set, length-drop, take-append-drop, drop_of_length-le}
 use lib.Seq.{drop-cons, drop-drop, take-add, take-suc-set, length-take-le}
@@ -15,11 +15,10 @@ use Rattle.lists.proofs.Tests.{by_test}
 use Rattle.lists.proofs.Lists.{sum_drop}
 use Rattle.rules.specs.declared.Received.{Received}
 use Rattle.rules.specs.Settings.{packets_most}
-use Rattle.rules.specs.Calls.{Packet, packets_in, single_call, received, Reply, answered_writing}
+use Rattle.rules.specs.Calls.{packets_in, single_call, received, Reply, answered_writing}
 use Rattle.rules.specs.Rules.{Each, written_by, and_then, receive_each}
 use Rattle.table_layout.specs.Calls.{receive_in}
 use Rattle.table_layout.specs.Facts.{Knows}
-use Rattle.call_burst_rows.specs.declared.Answers.{Answers}
 use Rattle.call_burst.specs.Bursts.{packet_at, Spaces, One, Enough, Receives}
 
 -- answers and octets that are there already, and then what the packets left leave

@@ -1,15 +1,14 @@
 -- The tests of a burst, by what the code asks first and last. Assumes nothing.
 use Prim.Native.Nat.{ℕ}
 use mathlib.Core.Path.{◌≡◌, refl, sym, ap, ◌∙◌}
-use mathlib.Core.Bool.{Bool, true, false, ◌&&◌, not}
+use mathlib.Core.Bool.{Bool, true, false, ◌&&◌}
 use mathlib.Core.List.{List}
 use lib.Dec.{leb, eqb}
 use lib.ListN.{length}
-use borrow.Author.Tests.{not-true, not-false}
-use Rattle.lists.specs.Lists.{and, sum}
+use Rattle.lists.specs.Lists.{sum}
 use Rattle.rules.specs.Settings.{packets_most}
 use Rattle.rules.specs.Calls.{BurstArgs}
-use Rattle.rules.specs.Rules.{burst_tests, burst_fits}
+use Rattle.rules.specs.Rules.{burst_fits}
 use Rattle.call_burst_checks.specs.Sizes.{Sizes}
 
 joined : (a b c d e : Bool) → ((a && (b && (c && d))) && e) ≡ (a && (b && (c && (d && (e && true)))))
@@ -31,8 +30,8 @@ module _ (a : BurstArgs) (o : ℕ) (ns : List ℕ) (s i r : ℕ) (z : Sizes a o 
       rw (← z.of_octets_lem, ← z.of_lengths, ← z.of_senders, ← z.of_interfaces, ← z.of_rows)
       (joined (eqb (length a.senders) (length a.lengths)) (eqb (length a.interfaces) (length a.lengths)) (leb (length a.lengths) packets_most) (leb (length a.lengths) (length a.answers)) (eqb (sum a.lengths) (length a.octets)))
 
-  pub uneven : not even ≡ true → false ≡ burst_fits a
-  uneven e = sym (ap (λ (b : Bool). b && eqb (sum ns) o) (not-true even e)) ∙ by_tests
+  pub uneven : even ≡ false → false ≡ burst_fits a
+  uneven e = sym (ap (λ (b : Bool). b && eqb (sum ns) o) e) ∙ by_tests
 
-  pub by_sum : not even ≡ false → eqb (sum ns) o ≡ burst_fits a
-  by_sum e = sym (ap (λ (b : Bool). b && eqb (sum ns) o) (not-false even e)) ∙ by_tests
+  pub by_sum : even ≡ true → eqb (sum ns) o ≡ burst_fits a
+  by_sum e = sym (ap (λ (b : Bool). b && eqb (sum ns) o) e) ∙ by_tests

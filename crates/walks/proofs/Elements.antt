@@ -22,20 +22,24 @@ use denote.RattleType.{RattleType}
 use denote.Shadow.{shadow}
 
 -- each element's machine value is its own
-pub each_at : (R : RattleType) (xs : List R.Denot) (us : List Val) → shadow (eachOf R.Denot R.own xs us) → (i : ℕ) (d : R.Denot) → i < length xs → Is R (get_or xs i d) (get_or us i vunit ∷ [])
+pub each_at : (R : RattleType) (xs : List R.Denot) (us : List Val) → shadow (eachOf R.Denot R.own_val xs us) → (i : ℕ) (d : R.Denot) → i < length xs → Is R (get_or xs i d) (get_or us i vunit ∷ [])
 each_at R [] us s i d l = absurd (not-suc-le-zero l)
 each_at R (x ∷ xs) [] s i d l = absurd s
 each_at R (x ∷ xs) (u ∷ us) s zero d l = s.0
 each_at R (x ∷ xs) (u ∷ us) s (suc i) d l = each_at R xs us s.1 i d (le_of_suc-le-suc l)
 
 -- and there are as many
-pub each_many : (R : RattleType) (xs : List R.Denot) (us : List Val) → shadow (eachOf R.Denot R.own xs us) → length us ≡ length xs
+pub each_many : (R : RattleType) (xs : List R.Denot) (us : List Val) → shadow (eachOf R.Denot R.own_val xs us) → length us ≡ length xs
 each_many R [] [] s = refl
 each_many R [] (u ∷ us) s = absurd s
 each_many R (x ∷ xs) [] s = absurd s
 each_many R (x ∷ xs) (u ∷ us) s = ap suc (each_many R xs us s.1)
 
 -- an array has its length
+pub long : (R : RattleType) (k : ℕ) (xs : List R.Denot) (vs : List Val) → Is (Array R k) xs vs → length xs ≡ k
+long R k xs vs are = are.1.0.1
+
+-- and so has one whose elements are seen as others
 pub sized : {X : Type 0} (R : RattleType) (to : X → R.Denot) (k : ℕ) (xs : List X) (vs : List Val) → Is (Array R k) (map to xs) vs → length xs ≡ k
 sized R to k xs vs are = sym (length-map xs to) ∙ are.1.0.1
 

@@ -8,22 +8,21 @@ use native.Mathlib.Numerals.{add-one}
 use native.Mathlib.Omega.{arith}
 use mathlib.Core.Bool.{Bool}
 use mathlib.Core.List.{[], ◌∷◌, List, map}
-use lib.ListN.{length, get_or, set, take, get_or-map}
+use lib.ListN.{length, get_or, take, get_or-map}
 use lib.Dec.{T as Ok, ltb, lit<}
 use borrow.Author.Tests.{lt-ltb, le-ltb}
 use seplogic.Ra.Ura.{Ura}
-use seplogic.Ra.TreeShare.{full_share}
+use base.Fraction.{full_share}
 use mir.Syntax.{Sym, Ty, Tys, tcons, Body, Fn, named, mut, w64, ty_int, ty_bool, ty_ptr, ty_unit, ty_ref, ty_struct, ty_array, place, field, deref, copy, int, opd_unit, rv_opd, op2, addr_of, lt, add, mul, offset, unsigned, seq, assign, cond, skip, exit, block, loop, return, local, value_local, memory_slot}
 use mir.Val.{Val, Vals, vunit, vbool, vint, vptr, vstruct, vcons, has_ty, WT, Dom, op2_chk}
 use base.Logic.{SProp, ent}
-use base.Fml.{Lft, Share, GName, ftrue, fat, froom, fdies, flft, fobs, fauth, fbor, fobor}
+use base.Fml.{Lft, Share, GName, fat, froom, fdies, flft, fobs, fauth, fbor, fobor}
 use prog.Memory.{up, align}
-use prog.Wp.{Out, Env, after_seq, after_block, after_turn, Calls, Loops, Wp, at_return, WpFn, Tables}
+use prog.Wp.{Out, Env, after_seq, after_block, after_turn, Wp, at_return, WpFn, Tables}
 use types.Logic.{Logic}
-use types.Kit.{Item, ‵, raw, ◌⊛◌, some, later, ⋆, mean, any_q, at_ret, ◌$◌, ◌∵◌, !, qed, by, move, keep, drop, use1, split, pick, rewrite, fsplit, await}
-use types.Run.{look, addr, init, store, store_raw, forget, stop, hop, fld, from, load, lit, unit_lit, of_opd, bin, and_then, no_more, land, assigns, assigns_last, stays, leaves_loop, returns, enter, alloc1, alloc0, params1, pass1, pass0, free1, free0, exec}
+use types.Kit.{Item, ‵, ⋆, any_q, at_ret, ◌$◌, ◌∵◌, !, qed, by, move, keep, drop, rewrite}
+use types.Run.{look, addr, init, store, store_raw, forget, stop, hop, fld, from, load, lit, unit_lit, of_opd, bin, assigns, assigns_last, stays, leaves_loop, returns, enter, alloc1, alloc0, params1, pass1, pass0, free1, free0, exec}
 use types.Part.{whole, sub, look_in}
-use sound.WpLaws.{fm_of}
 use denote.RattleType.{RattleType}
 use denote.Memory.{mem}
 use denote.Laws.{Is, Makes, shows}
@@ -80,6 +79,8 @@ module _ (T : Declared) (ρ : Ty) (ν : Sym) (k : ℕ) (τs : Tys) where
   function =
       record {
         lifetimes = 1;
+        ty_params = [];
+        givens = 0;
         outlives = [];
         params = 2;
         locals =
