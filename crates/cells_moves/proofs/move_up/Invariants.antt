@@ -1,0 +1,13 @@
+use borrow.Author.Rules.{rules}
+use mathlib.Core.Path.{◌≡◌, refl, ◌∙◌}
+use Prim.Native.Nat.{◌-◌, ◌≤◌}
+use native.Mathlib.Omega.{arith}
+use lib.ListN.{length, length-set}
+use Rattle.cells_moves.proofs.Moves.{up_to, up_start, up_turn, up_done}
+use Rattle.cells_moves.proofs.move_up.Given as goal
+
+abbrev pub invariant-loop-k : goal.invariant-loop-k
+invariant-loop-k l = (l.low ≤ l.k) × (l.k ≤ length l.initial.cells) × (length l.cells ≡ length l.initial.cells) × (l.cells ≡ up_to l.initial.cells l.w l.k)
+
+abbrev pub decreases-loop-k : goal.decreases-loop-k
+decreases-loop-k l = l.k

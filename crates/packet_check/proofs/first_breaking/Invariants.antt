@@ -1,0 +1,14 @@
+use mathlib.Core.Path.{◌≡◌, refl, sym, ◌∙◌}
+use mathlib.Core.Option.{none}
+use Prim.Native.Nat.{◌-◌, ◌≤◌}
+use borrow.Author.Rules.{rules}
+use Rattle.wire.specs.Check.{entries, first_where}
+use Rattle.packet_check.specs.Entries.{breaks_rule}
+use Rattle.packet_check.proofs.Search.{none_yet, none_left, first_met}
+use Rattle.packet_check.proofs.first_breaking.Given as goal
+
+abbrev pub invariant-loop-k : goal.invariant-loop-k
+invariant-loop-k l = (l.k ≤ entries l.hna) × (first_where l.k (breaks_rule l.rule l.hna) ≡ none)
+
+abbrev pub decreases-loop-k : goal.decreases-loop-k
+decreases-loop-k l = l.entries - l.k
