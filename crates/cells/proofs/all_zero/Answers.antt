@@ -1,12 +1,10 @@
 -- The joined bits are 0 exactly where every cell is: the loop's invariant is that the bits so far and the cells to come are zero exactly where all are.
 use borrow.Author.Rules.{rules}
-use mathlib.Core.Path.{◌≡◌, refl, sym, ap, ◌∙◌}
+use mathlib.Core.Path.{refl, sym, ap, ◌∙◌}
 use mathlib.Core.Bool.{Bool, ◌&&◌, and-true}
-use Prim.Native.Nat.{◌-◌, ◌≤◌}
 use native.Mathlib.Omega.{arith}
 use lib.Dec.{eqb}
-use lib.ListN.{length, drop, get_or}
-use Rattle.cells.specs.Area.{all_zero}
+use lib.ListN.{get_or}
 use Rattle.cells.proofs.Keys.{joined-next, joined_end}
 use Rattle.cells.proofs.all_zero.Goals as goal
 

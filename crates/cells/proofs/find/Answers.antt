@@ -1,11 +1,10 @@
 -- The loop's invariant is `Going`: the rounds taken so far, put before those of a search that goes on from here, are those of the whole search.
-use borrow.Author.Rules.{rules}
 use Prim.Native.Nat.{◌*◌, ◌<◌}
 use native.Mathlib.Omega.{arith}
 use lib.ListN.{length}
 use Rattle.cells.specs.Area.{column}
 use Rattle.cells.specs.Find.{middle}
-use Rattle.cells.proofs.Search.{Going, going_start, going_up, going_down, ends_at, ends_between, row_within}
+use Rattle.cells.proofs.Search.{going_start, going_up, going_down, ends_at, ends_between, row_within}
 use Rattle.cells.proofs.find.Goals as goal
 use Rattle.cells.proofs.find.Goals.{In-loop-left}
 

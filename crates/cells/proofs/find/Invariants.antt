@@ -1,10 +1,5 @@
-use borrow.Author.Rules.{rules}
-use Prim.Native.Nat.{◌*◌, ◌<◌}
-use native.Mathlib.Omega.{arith}
-use lib.ListN.{length}
 use Rattle.cells.specs.Area.{column}
-use Rattle.cells.specs.Find.{middle}
-use Rattle.cells.proofs.Search.{Going, going_start, going_up, going_down, ends_at, ends_between, row_within}
+use Rattle.cells.proofs.Search.{Going}
 use Rattle.cells.proofs.find.Given as goal
 
 abbrev pub invariant-loop-left : goal.invariant-loop-left

@@ -1,10 +1,8 @@
 -- The loop's invariant: the first i cells are zero.
-use borrow.Author.Rules.{rules}
-use mathlib.Core.Path.{◌≡◌, refl, ◌∙◌}
-use Prim.Native.Nat.{◌-◌, ◌≤◌}
+use mathlib.Core.Path.{refl, ◌∙◌}
 use native.Mathlib.Omega.{arith}
 use lib.ListN.{length, length-set}
-use lib.Seq.{paste, paste-zero}
+use lib.Seq.{paste-zero}
 use Rattle.cells.specs.Area.{zeros}
 use Rattle.cells_moves.proofs.Moves.{zeros_turn, zeros-done}
 use Rattle.cells_moves.proofs.clear.Goals as goal

@@ -1,11 +1,8 @@
-use borrow.Author.Rules.{rules}
-use mathlib.Core.Path.{◌≡◌, refl, ◌∙◌}
+use mathlib.Core.Path.{◌≡◌}
 use Prim.Native.Nat.{◌-◌, ◌≤◌}
-use native.Mathlib.Omega.{arith}
-use lib.ListN.{length, length-set}
-use lib.Seq.{paste, paste-zero}
+use lib.ListN.{length}
+use lib.Seq.{paste}
 use Rattle.cells.specs.Area.{zeros}
-use Rattle.cells_moves.proofs.Moves.{zeros_turn, zeros-done}
 use Rattle.cells_moves.proofs.clear.Given as goal
 
 abbrev pub invariant-loop-i : goal.invariant-loop-i

@@ -1,5 +1,4 @@
 -- The row is written, and what follows it is lent to be cleared.
-use borrow.Author.Rules.{rules}
 use native.Mathlib.Omega.{arith}
 use Rattle.cells_moves.proofs.Moves.{filled}
 use Rattle.cells_moves.proofs.fill.Goals as goal

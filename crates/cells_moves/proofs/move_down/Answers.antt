@@ -1,10 +1,10 @@
 -- The loop's invariant: the first j cells have been copied, and those to come are as they were.
 use borrow.Author.Rules.{rules}
 use mathlib.Core.Path.{◌≡◌, refl, sym, ap, ◌∙◌}
-use Prim.Native.Nat.{ℕ, ◌+◌, ◌-◌, ◌≤◌}
+use Prim.Native.Nat.{ℕ, ◌+◌}
 use native.Mathlib.Omega.{arith}
-use lib.ListN.{length, get_or, length-set}
-use lib.Seq.{paste, paste-zero}
+use lib.ListN.{get_or, length-set}
+use lib.Seq.{paste-zero}
 use mathlib.Core.List.{List}
 use Rattle.cells.specs.Area.{written}
 use Rattle.cells_moves.proofs.Moves.{paste_turn, paste_two, paste_done, still, source, length_source, down_cell}

@@ -1,10 +1,8 @@
 -- The loop's invariant: the cells from k on have come up by w.
-use borrow.Author.Rules.{rules}
-use mathlib.Core.Path.{◌≡◌, refl, ◌∙◌}
-use Prim.Native.Nat.{◌-◌, ◌≤◌}
+use mathlib.Core.Path.{refl, ◌∙◌}
 use native.Mathlib.Omega.{arith}
-use lib.ListN.{length, length-set}
-use Rattle.cells_moves.proofs.Moves.{up_to, up_start, up_turn, up_done}
+use lib.ListN.{length-set}
+use Rattle.cells_moves.proofs.Moves.{up_start, up_turn, up_done}
 use Rattle.cells_moves.proofs.move_up.Goals as goal
 
 pub loop-k-init : goal.loop-k-init

@@ -1,9 +1,7 @@
-use borrow.Author.Rules.{rules}
-use mathlib.Core.Path.{◌≡◌, refl, ◌∙◌}
-use Prim.Native.Nat.{◌-◌, ◌≤◌}
-use native.Mathlib.Omega.{arith}
-use lib.ListN.{length, length-set}
-use Rattle.cells_moves.proofs.Moves.{up_to, up_start, up_turn, up_done}
+use mathlib.Core.Path.{◌≡◌}
+use Prim.Native.Nat.{◌≤◌}
+use lib.ListN.{length}
+use Rattle.cells_moves.proofs.Moves.{up_to}
 use Rattle.cells_moves.proofs.move_up.Given as goal
 
 abbrev pub invariant-loop-k : goal.invariant-loop-k

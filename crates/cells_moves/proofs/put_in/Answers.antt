@@ -1,5 +1,4 @@
 -- Moved up, then written over, is put in.
-use borrow.Author.Rules.{rules}
 use native.Mathlib.Omega.{arith}
 use Rattle.cells_moves.proofs.Moves.{put-done}
 use Rattle.cells_moves.proofs.put_in.Goals as goal

@@ -1,10 +1,8 @@
 -- The loop's invariant: the first j cells of the row are written.
-use borrow.Author.Rules.{rules}
-use mathlib.Core.Path.{◌≡◌, refl, ◌∙◌}
-use Prim.Native.Nat.{◌-◌, ◌≤◌}
+use mathlib.Core.Path.{refl, ◌∙◌}
 use native.Mathlib.Omega.{arith}
-use lib.ListN.{length, length-set}
-use lib.Seq.{paste, paste-zero}
+use lib.ListN.{length-set}
+use lib.Seq.{paste-zero}
 use Rattle.cells_moves.proofs.Moves.{paste_turn, paste_done}
 use Rattle.cells_moves.proofs.write.Goals as goal
 

@@ -1,10 +1,7 @@
-use borrow.Author.Rules.{rules}
-use mathlib.Core.Path.{◌≡◌, refl, ◌∙◌}
+use mathlib.Core.Path.{◌≡◌}
 use Prim.Native.Nat.{◌-◌, ◌≤◌}
-use native.Mathlib.Omega.{arith}
-use lib.ListN.{length, length-set}
-use lib.Seq.{paste, paste-zero}
-use Rattle.cells_moves.proofs.Moves.{paste_turn, paste_done}
+use lib.ListN.{length}
+use lib.Seq.{paste}
 use Rattle.cells_moves.proofs.write.Given as goal
 
 abbrev pub invariant-loop-j : goal.invariant-loop-j

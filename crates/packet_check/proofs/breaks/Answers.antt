@@ -1,6 +1,5 @@
 -- `packet_check::breaks` meets its contract, by cases on the rule. Assumes nothing.
 use mathlib.Core.Path.{sym, ap, ◌∙◌}
-use borrow.Author.Rules.{rules}
 use Rattle.packet_check.specs.declared.EntryRule.{EntryRule}
 use Rattle.packet_check.specs.Entries.{breaks_rule}
 use Rattle.packet_check.proofs.breaks.Goals as goal

@@ -1,9 +1,7 @@
 -- `packet_check::first_breaking` meets its contract. The loop's invariant: no entry before place k breaks the rule. Assumes nothing.
-use mathlib.Core.Path.{◌≡◌, refl, sym, ◌∙◌}
-use mathlib.Core.Option.{none}
-use Prim.Native.Nat.{◌-◌, ◌≤◌}
+use mathlib.Core.Path.{refl, sym, ◌∙◌}
 use borrow.Author.Rules.{rules}
-use Rattle.wire.specs.Check.{entries, first_where}
+use Rattle.wire.specs.Check.{first_where}
 use Rattle.packet_check.specs.Entries.{breaks_rule}
 use Rattle.packet_check.proofs.Search.{none_yet, none_left, first_met}
 use Rattle.packet_check.proofs.first_breaking.Goals as goal

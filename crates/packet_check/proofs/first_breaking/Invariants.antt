@@ -1,10 +1,8 @@
-use mathlib.Core.Path.{◌≡◌, refl, sym, ◌∙◌}
+use mathlib.Core.Path.{◌≡◌}
 use mathlib.Core.Option.{none}
 use Prim.Native.Nat.{◌-◌, ◌≤◌}
-use borrow.Author.Rules.{rules}
 use Rattle.wire.specs.Check.{entries, first_where}
 use Rattle.packet_check.specs.Entries.{breaks_rule}
-use Rattle.packet_check.proofs.Search.{none_yet, none_left, first_met}
 use Rattle.packet_check.proofs.first_breaking.Given as goal
 
 abbrev pub invariant-loop-k : goal.invariant-loop-k

@@ -1,5 +1,4 @@
 -- `packet_check::has_host_bits` meets its contract: the mask is no bad one, and then the shift is right. Assumes nothing.
-use borrow.Author.Rules.{rules}
 use Rattle.packet_check.proofs.HostBits.{both-asked}
 use Rattle.packet_check.proofs.has_host_bits.Goals as goal
 

@@ -1,6 +1,5 @@
 -- `packet_check::hna_fault` meets its contract. Assumes nothing.
 use mathlib.Core.Path.{sym, ◌∙◌}
-use borrow.Author.Rules.{rules}
 use Rattle.wire.proofs.Order.{ragged, mask-found, host_bits_found, none_found}
 use Rattle.packet_check.proofs.hna_fault.Goals as goal
 

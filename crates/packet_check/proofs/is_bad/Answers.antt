@@ -1,6 +1,5 @@
 -- `packet_check::is_bad` meets its contract. Assumes nothing.
 use mathlib.Core.Path.{ap}
-use borrow.Author.Rules.{rules}
 use lib.Dec.{ltb}
 use Rattle.wire.specs.Layout.{mask_most}
 use Rattle.packet_check.proofs.is_bad.Goals as goal

@@ -1,6 +1,6 @@
 -- `packet_check::is_clean` meets its contract. The loop's invariant: no entry before place k breaks a rule, and `left` entries are left. Assumes nothing.
 use mathlib.Core.Path.{◌≡◌, refl, sym, ◌∙◌}
-use Prim.Native.Nat.{◌+◌, ◌*◌}
+use Prim.Native.Nat.{◌*◌}
 use native.Mathlib.Omega.{arith}
 use borrow.Author.Rules.{rules}
 use borrow.Author.Tests.{eqb-true}
@@ -8,8 +8,8 @@ use lib.Dec.{eqb}
 use lib.ListN.{length}
 use Rattle.lists.proofs.Tests.{and_left, and_right}
 use Rattle.wire.specs.Layout.{entry_size}
-use Rattle.wire.specs.Check.{entries, first_where}
-use Rattle.packet_check.proofs.Search.{CleanBefore, one-passed, all-passed}
+use Rattle.wire.specs.Check.{first_where}
+use Rattle.packet_check.proofs.Search.{one-passed, all-passed}
 use Rattle.packet_check.proofs.is_clean.Goals as goal
 
 pub loop-left-init : goal.loop-left-init

@@ -1,14 +1,7 @@
-use mathlib.Core.Path.{◌≡◌, refl, sym, ◌∙◌}
-use Prim.Native.Nat.{◌+◌, ◌*◌}
-use native.Mathlib.Omega.{arith}
-use borrow.Author.Rules.{rules}
-use borrow.Author.Tests.{eqb-true}
-use lib.Dec.{eqb}
-use lib.ListN.{length}
-use Rattle.lists.proofs.Tests.{and_left, and_right}
-use Rattle.wire.specs.Layout.{entry_size}
-use Rattle.wire.specs.Check.{entries, first_where}
-use Rattle.packet_check.proofs.Search.{CleanBefore, one-passed, all-passed}
+use mathlib.Core.Path.{◌≡◌}
+use Prim.Native.Nat.{◌+◌}
+use Rattle.wire.specs.Check.{entries}
+use Rattle.packet_check.proofs.Search.{CleanBefore}
 use Rattle.packet_check.proofs.is_clean.Given as goal
 
 abbrev pub invariant-loop-left : goal.invariant-loop-left

@@ -1,5 +1,4 @@
 -- `packet_check::is_faulty` meets its contract: the mask is a bad one, or else the shift is right. Assumes nothing.
-use borrow.Author.Rules.{rules}
 use Rattle.packet_check.proofs.HostBits.{either_asked}
 use Rattle.packet_check.proofs.is_faulty.Goals as goal
 

@@ -1,5 +1,4 @@
 -- `entry_at`: the network's four octets and the mask's, joined.
-use borrow.Author.Rules.{rules}
 use mathlib.Core.Path.{ap₂, ◌∙◌}
 use Prim.Native.Nat.{ℕ, ◌+◌, ◌*◌}
 use Rattle.wire.specs.Entries.{entry_of, entry_at}

@@ -1,5 +1,4 @@
 -- `packets::message::octets` meets its contract. Assumes nothing.
-use borrow.Author.Rules.{rules}
 use Rattle.wire.specs.Packet.{header_octets}
 use Rattle.packet_codec.proofs.message.octets.Goals as goal
 

@@ -1,5 +1,4 @@
 -- `packets::message::read` meets its contract: the numbers are what the three calls say. Assumes nothing.
-use borrow.Author.Rules.{rules}
 use Rattle.wire.specs.Packet.{header}
 use Rattle.packet_codec.proofs.message.read.Goals as goal
 

@@ -2,7 +2,6 @@
 use mathlib.Core.Path.{◌≡◌, refl}
 use mathlib.Core.Bool.{Bool, true, false, cond, not}
 use Prim.Native.Nat.{ℕ}
-use borrow.Author.Rules.{rules}
 use Rattle.wire.specs.Packet.{unnamed}
 use Rattle.wire.specs.PassOn.{flags_here}
 use Rattle.packet_codec.proofs.output.flags_here.Goals as goal

@@ -1,4 +1,3 @@
-use Rattle.std.proofs.Common.{refl}
 use Rattle.lists.specs.Lists.{written_to}
 use Rattle.packet_codec.proofs.output.write_octets.Goals as goal
 
