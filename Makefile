@@ -27,15 +27,16 @@ $(BUILD)/demo: archive
 	@mkdir -p $(BUILD)
 	@$(CC) $(CFLAGS) $(WARN) -Iinclude -Ifilter $(YARD) $(ARCHIVE) -o $@
 
-# The archive that a C program links: proved first, then compiled. Each function is made to begin on a cache line, so that how fast its loops are does not
-# depend on where a program's linker puts them.
+# The archive that a C program links, and that of the benchmark: proved first, then compiled (tools/archive). PROVED=proved is for tools/test alone, right after its `rt ci`.
 archive: $(ARCHIVE)
+
+$(ARCHIVE): CRATE = batman_c
+$(SEARCH): CRATE = bench_search
 
 .PHONY: $(ARCHIVE) $(SEARCH)
 $(ARCHIVE) $(SEARCH): target/staticlib/lib%.a:
 	@mkdir -p target
-	@rt staticlib $* > target/staticlib-$*.log 2>&1 || { cat target/staticlib-$*.log; exit 1; }
-	@$(OBJCOPY) --set-section-alignment '.text.*=64' $@
+	@OBJCOPY='$(OBJCOPY)' tools/archive $(CRATE) $@ $(PROVED) > target/staticlib-$*.log 2>&1 || { cat target/staticlib-$*.log; exit 1; }
 
 test:
 	@tools/test

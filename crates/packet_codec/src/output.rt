@@ -15,14 +15,24 @@ const DIRECT: u8 = 64;
 
 const UNNAMED: u8 = 64;
 
+// Writes these octets at the start of the output, and answers how many they are.
+fn write_octets(from: &[u8], out: &mut [u8]) -> usize
+    requires { length from.now ≤ length out.old }
+    ensures count { result ≡ length from.now }
+    ensures after { out.new ≡ written_to from.now out.old }
+{
+    out[..from.len()].copy_from_slice(from);
+    from.len()
+}
+
 // Writes the packet with this message and these HNA octets, and answers its length.
 pub fn write_packet(out: &mut [u8], h: Header, hna: &[u8]) -> usize
     requires { header_size + length hna.now ≤ length out.old }
     ensures { (result ≡ header_size + length hna.now) × (out.new ≡ written_to (P.packet_of h hna.now) out.old) }
 {
     let head = octets(h);
-    bytes::copy(&head, out);
-    HEADER_SIZE + bytes::copy(hna, &mut out[HEADER_SIZE..])
+    write_octets(&head, out);
+    HEADER_SIZE + write_octets(hna, &mut out[HEADER_SIZE..])
 }
 
 pub fn is_unidirectional(flags: u8) -> bool
@@ -63,7 +73,7 @@ pub fn pass_on(packet: &[u8], out: &mut [u8], flags: u8)
     requires { (header_size ≤ length packet.now) × (length packet.now ≤ length out.old) × (0 < P.octet packet.now ttl_at) }
     ensures { out.new ≡ written_to (O.passed_on flags packet.now) out.old }
 {
-    bytes::copy(packet, out);
+    write_octets(packet, out);
     out[FLAGS_AT] = flags;
     out[TTL_AT] = packet[TTL_AT] - 1;
 }

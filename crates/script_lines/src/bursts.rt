@@ -65,11 +65,12 @@ pub fn read(line: &[u8], at: usize, buffer: &mut [u8]) -> Burst
     let n = read_numbers(line, at, &limits);
     let o = next_octets(line, n.end, buffer);
     let lists = read_lists(line, o.end);
+    let good = n.good & o.good & lists.good;
     let value = n.value;
     Burst {
         value,
         octets: o.count,
         lists,
-        good: n.good & o.good & lists.good,
+        good,
     }
 }

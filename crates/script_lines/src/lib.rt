@@ -15,5 +15,7 @@ pub fn gather(line: &mut [u8], length: usize, part: &[u8]) -> usize {
     if line.len() - length < part.len() {
         return line.len() + 1;
     }
-    length + bytes::copy(part, &mut line[length..])
+    let end = length + part.len();
+    line[length..end].copy_from_slice(part);
+    end
 }

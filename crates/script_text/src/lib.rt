@@ -3,7 +3,9 @@
 #![tactic(auto)]
 
 ghost use Rattle.std.specs.Prelude.{◌≡◌, ◌<◌};
-ghost use Rattle.io.specs.Digits.{hex_digit_ascii};
+ghost use Rattle.std.specs.Char.{digit_char};
+
+use itoa::Buffer;
 
 const BASE: u8 = 16;
 
@@ -30,10 +32,9 @@ pub fn put_word(text: &mut [u8], used: usize, word: &[u8]) -> usize {
 
 // A space and a number in decimal.
 pub fn put_number(text: &mut [u8], used: usize, number: u64) -> usize {
-    let mut digits = [0u8; 20];
-    let k = io::decimal(number, &mut digits);
+    let mut digits = Buffer::new();
     let at = put_octet(text, used, b' ');
-    put_word(text, at, &digits[..k])
+    put_word(text, at, digits.format(number).as_bytes())
 }
 
 pub fn put_line_end(text: &mut [u8], used: usize) -> usize {
@@ -43,7 +44,7 @@ pub fn put_line_end(text: &mut [u8], used: usize) -> usize {
 // A value below 16 as a hex digit.
 fn hex_digit(value: u8) -> u8
     requires { value < 16 }
-    ensures { result ≡ hex_digit_ascii value }
+    ensures { result ≡ digit_char value }
 {
     if value < 10 {
         b'0' + value

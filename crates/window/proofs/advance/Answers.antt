@@ -1,5 +1,4 @@
 -- `advance` takes the branch that the position names.
-use borrow.Author.Rules.{rules}
 use Rattle.window.proofs.advance.Goals as goal
 
 pub returns-then-is_new : goal.returns-then-is_new

@@ -1,5 +1,4 @@
 -- `fits` compares with the largest word of w bits.
-use borrow.Author.Rules.{rules}
 use Rattle.window.proofs.Bits.{fits_code}
 use Rattle.window.specs.Marks.{word_bits, word_of}
 use Rattle.window.proofs.fits.Goals as goal

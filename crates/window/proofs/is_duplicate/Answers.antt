@@ -1,9 +1,7 @@
 -- A number outside the window is no duplicate; one inside is by the mark of its place.
-use borrow.Author.Rules.{rules}
 use mathlib.Core.Path.{◌≡◌, sym, ap, ◌∙◌, subst}
 use mathlib.Core.Bool.{Bool, true, ◌&&◌}
 use Prim.Native.Nat.{ℕ, ◌<◌}
-use borrow.Author.Tests.{not-true, not-false}
 use Rattle.window.specs.Window.{is_inside, bit, marked}
 use Rattle.window.specs.Marks.{word_bits, word_of}
 use Rattle.window.proofs.is_duplicate.Goals as goal

@@ -1,6 +1,5 @@
 -- `is_marked` tests the digit that the definition names.
 use mathlib.Core.Path.{refl}
-use borrow.Author.Rules.{rules}
 use Rattle.window.specs.Window.{bit}
 use Rattle.window.specs.Marks.{word_of}
 use Rattle.window.proofs.is_marked.Goals as goal

@@ -1,5 +1,4 @@
 -- `mark` sets the bit that `1 << k` has.
-use borrow.Author.Rules.{rules}
 use Rattle.window.proofs.Bits.{mark_code}
 use Rattle.window.specs.Marks.{word_bits, word_of}
 use Rattle.window.proofs.mark.Goals as goal

@@ -1,5 +1,4 @@
 -- `sequence_test` compares one distance, that below current, with the window and with half way.
-use borrow.Author.Rules.{rules}
 use mathlib.Core.Path.{sym}
 use native.Mathlib.Omega.{arith}
 use Rattle.window.proofs.Positions.{position-inside, position-new, position-stale}

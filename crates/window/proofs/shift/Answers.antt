@@ -1,6 +1,5 @@
 -- `shift` leaves no mark where the whole window is passed, and else shifts left and back.
 use mathlib.Core.Path.{sym}
-use borrow.Author.Rules.{rules}
 use Rattle.window.proofs.Bits.{shift_past, shift_spare}
 use Rattle.window.specs.Marks.{word_bits, word_of}
 use Rattle.window.proofs.shift.Goals as goal

@@ -1,0 +1,20 @@
+-- `call_receive_relay::decide` meets its contract: by whether the originator has a record. Assumes nothing.
+use mathlib.Core.Path.{◌≡◌, subst}
+use borrow.Author.Rules.{rules}
+use Rattle.cells.specs.declared.Found.{Found}
+use Rattle.table_originators.specs.Originators.{RecordFound}
+use Rattle.call_receive_relay.proofs.Messages.{missing_timely}
+use Rattle.call_receive_relay.proofs.decide.Goals as goal
+use Rattle.call_receive_relay.proofs.decide.Goals.{After-find_record-f}
+
+-- what the search says of the originator
+found : (c : goal.After-find_record-f) → let a = c.args in (x : Found) → c.find_record-f.result.found ≡ x → RecordFound a.cells.now a.m.originator x
+found c x e = let a = c.args in subst (RecordFound a.cells.now a.m.originator) e c.find_record-f.ensures.found
+
+pub heard_again-requires : goal.heard_again-requires
+heard_again-requires c =
+    (c.requires.0, c.requires.1, found (goal.at.heard_again-requires c).After-find_record-f _ c.in-At.is)
+
+pub first_heard-requires : goal.first_heard-requires
+first_heard-requires c =
+    let m = found (goal.at.first_heard-requires c).After-find_record-f _ c.in-Place.is in (record { taken = c.requires.0; link = c.is_bidirectional-bidirectional.ensures; ruled = missing_timely c.requires.0 c.requires.1 m }, m)
