@@ -5,8 +5,9 @@ mod calls;
 mod session;
 
 use crate::session::{Session, finish, last_line, take_piece};
-use libc::STDIN_FILENO;
 use script_lines::requests::CELLS_MOST;
+use std::io;
+use std::io::Read;
 
 // How many octets are read at once, and how many a line has at most.
 const PIECE: usize = 65536;
@@ -20,32 +21,49 @@ const CELL_LINE: usize = 32;
 const TEXT: usize = session::GATHERED + CELLS_MOST * CELL_LINE;
 
 // Reads to the end of the input. A proved loop has to end, and nothing says that an input does: so the loop counts its
-// turns down, from a number that no run uses up.
-fn replay(piece: &mut [u8], line: &mut [u8], cells: &mut [u64], text: &mut [u8]) {
+// turns, up to a number that no run uses up. A failed read ends the input too: what came before it is answered first.
+fn replay<R: Read>(
+    rt: &impl Print,
+    input: &mut R,
+    piece: &mut [u8],
+    line: &mut [u8],
+    cells: &mut [u64],
+    text: &mut [u8],
+) -> io::Result<()> {
     let mut s = Session {
         lent: cells.len(),
         used: 0,
         lines: 0,
         length: 0,
     };
-    let mut turns = u64::MAX;
-    while turns > 0 {
-        let got = libc::read(STDIN_FILENO, piece);
-        if got <= 0 {
-            break;
+    let mut ended = Ok(());
+    for _ in 0..u64::MAX {
+        match input.read(piece) {
+            Ok(0) => break,
+            Ok(n) => s = take_piece(rt, &piece[..n], line, cells, text, s)?,
+            Err(e) => {
+                ended = Err(e);
+                break;
+            }
         }
-        let n = io::count(got, piece);
-        s = take_piece(&piece[..n], line, cells, text, s);
-        turns -= 1;
     }
-    let last = last_line(line, cells, text, s);
-    finish(text, last.used);
+    let last = last_line(rt, line, cells, text, s)?;
+    finish(rt, text, last.used)?;
+    ended
 }
 
-fn main() {
-    let mut piece = [0u8; PIECE];
-    let mut line = [0u8; LINE_MOST];
-    let mut cells = [0u64; CELLS_MOST];
-    let mut text = [0u8; TEXT];
-    replay(&mut piece, &mut line, &mut cells, &mut text);
+fn main(rt: HostRuntime) -> io::Result<()> {
+    let alloc = rt.alloc();
+    let mut piece = vec![in alloc; 0u8; PIECE]?;
+    let mut line = vec![in alloc; 0u8; LINE_MOST]?;
+    let mut cells = vec![in alloc; 0u64; CELLS_MOST]?;
+    let mut text = vec![in alloc; 0u8; TEXT]?;
+    replay(
+        &rt,
+        &mut rt.stdin(),
+        &mut piece,
+        &mut line,
+        &mut cells,
+        &mut text,
+    )
 }

@@ -1,15 +1,15 @@
 // Lines: put together from the pieces that are read, and each answered.
-ghost use Rattle.std.specs.Prelude.{◌≤◌, length};
+ghost use Rattle.std.specs.Prelude.{◌≡◌, ℕ, ◌<◌, ◌≤◌, ◌≢◌, length, slice_index};
 ghost use Rattle.script_octets.specs.Octets.{Fits};
 
 use crate::calls::{burst, make_call};
-use libc::STDOUT_FILENO;
 use script_answers::put_one;
 use script_lines::bursts::BUFFER_MOST;
 use script_lines::names::Call;
 use script_lines::requests::{Named, PACKET_MOST, name_of};
 use script_lines::{bursts, gather, requests};
 use script_numbers::NUMBERS_MOST;
+use std::io;
 
 const LINE_END: u8 = b'\n';
 
@@ -144,62 +144,94 @@ fn answer(line: &[u8], cells: &mut [u64], text: &mut [u8], s: Session) -> Sessio
 }
 
 // Writes out what the text holds.
-pub fn finish(text: &[u8], used: usize) {
+pub fn finish(rt: &impl Print, text: &[u8], used: usize) -> io::Result<()> {
     if used <= text.len() {
-        io::write_all(STDOUT_FILENO, &text[..used]);
+        return rt.write_all(&text[..used]);
     }
+    Ok(())
 }
 
 // Writes out the text if enough is gathered, and answers how much of it is then used.
-fn write_out(text: &[u8], used: usize) -> usize {
+fn write_out(rt: &impl Print, text: &[u8], used: usize) -> io::Result<usize> {
     if used < GATHERED {
-        return used;
+        return Ok(used);
     }
-    finish(text, used);
-    0
+    finish(rt, text, used)?;
+    Ok(0)
 }
 
 // The end of a line: it is answered, or passed over where it is too long, and the next one begins.
-fn end_line(line: &[u8], cells: &mut [u64], text: &mut [u8], s: Session) -> Session {
+fn end_line(
+    rt: &impl Print,
+    line: &[u8],
+    cells: &mut [u64],
+    text: &mut [u8],
+    s: Session,
+) -> io::Result<Session> {
     let begun = Session {
         lent: s.lent,
-        used: write_out(text, s.used),
-        lines: std::num::wrapping_add_u64(s.lines, 1),
+        used: write_out(rt, text, s.used)?,
+        lines: s.lines.wrapping_add(1),
         length: 0,
     };
     let length = s.length;
     if line.len() < length {
-        return unread(text, begun);
+        return Ok(unread(text, begun));
     }
-    answer(&line[..length], cells, text, begun)
+    Ok(answer(&line[..length], cells, text, begun))
 }
 
 // The end of the input: the last line may lack its line end.
-pub fn last_line(line: &[u8], cells: &mut [u64], text: &mut [u8], s: Session) -> Session {
+pub fn last_line(
+    rt: &impl Print,
+    line: &[u8],
+    cells: &mut [u64],
+    text: &mut [u8],
+    s: Session,
+) -> io::Result<Session> {
     if s.length == 0 {
-        return s;
+        return Ok(s);
     }
-    end_line(line, cells, text, s)
+    end_line(rt, line, cells, text, s)
+}
+
+// Where the first line end of a piece stands, from `at` on: the piece's length where none is left.
+fn line_end(piece: &[u8], at: usize) -> usize
+    requires { at ≤ length piece.now }
+    ensures from { at ≤ result }
+    ensures within { result ≤ length piece.now }
+    ensures before { (k : ℕ) → at ≤ k → k < result → slice_index piece.now k ≢ 10 }
+    ensures found { result < length piece.now → slice_index piece.now result ≡ 10 }
+{
+    let mut end = at;
+    while end < piece.len() {
+        if piece[end] == LINE_END {
+            break;
+        }
+        end += 1;
+    }
+    end
 }
 
 // Answers each line that ends in a piece, and gathers what is left of it.
 pub fn take_piece(
+    rt: &impl Print,
     piece: &[u8],
     line: &mut [u8],
     cells: &mut [u64],
     text: &mut [u8],
     s: Session,
-) -> Session {
+) -> io::Result<Session> {
     let mut t = s;
     let mut at = 0;
     loop {
-        let end = bytes::scan::find(piece, at, piece.len(), LINE_END);
+        let end = line_end(piece, at);
         t = with_length(t, gather(line, t.length, &piece[at..end]));
         if end == piece.len() {
             break;
         }
-        t = end_line(line, cells, text, t);
+        t = end_line(rt, line, cells, text, t)?;
         at = end + 1;
     }
-    t
+    Ok(t)
 }
