@@ -14,7 +14,7 @@ use Rattle.lists.proofs.Lists.{all_map, all_weaken}
 use Rattle.cells.proofs.Bools.{same_test}
 use Rattle.cells.proofs.Trips.{length-decoded}
 use Rattle.cells.proofs.Pairs.{length_pairs}
-use Rattle.rules.specs.Settings.{allowed, neighbour_most, interface_cells, record_cells, table_head, cells_needed}
+use Rattle.rules.specs.Settings.{neighbour_most, interface_cells, record_cells, table_head, cells_needed}
 use Rattle.rules.specs.Table.{TableRecord}
 use Rattle.rules.specs.WellFormed.{row_tests, record_tests}
 use Rattle.rules.proofs.WellFormed.{Wf, whole}

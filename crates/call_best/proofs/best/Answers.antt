@@ -1,5 +1,4 @@
 -- `call_best::best` meets its contract: refused by 1, or answered by the originator's record. Assumes nothing.
-use borrow.Author.Rules.{rules}
 use Rattle.table_check.proofs.Checked.{ill, well, known}
 use Rattle.call_best.proofs.Asking.{ill_formed, answers}
 use Rattle.call_best.proofs.best.Goals as goal

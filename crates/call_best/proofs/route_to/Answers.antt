@@ -1,5 +1,4 @@
 -- `call_best::route_to` meets its contract: the route of the record that is found, or none. Assumes nothing.
-use borrow.Author.Rules.{rules}
 use mathlib.Core.Path.{sym, ap, ◌∙◌, subst}
 use Rattle.rules.specs.Rules.{route_of}
 use Rattle.rules.specs.Table.{table}

@@ -1,5 +1,4 @@
 -- `located_at`: none where no mask is needed yet, else the best.
-use borrow.Author.Rules.{rules}
 use borrow.Author.Tests.{eq-eqb, ne_eqb}
 use Rattle.call_lookup.proofs.located_at.Goals as goal
 

@@ -1,5 +1,4 @@
 -- `call_lookup::lookup` meets its contract: refused by 1, or answered by the best of all entries. Assumes nothing.
-use borrow.Author.Rules.{rules}
 use Rattle.table_check.proofs.Checked.{ill, well, known}
 use Rattle.call_lookup.proofs.Answers.{ill_formed, answers}
 use Rattle.call_lookup.proofs.lookup.Goals as goal

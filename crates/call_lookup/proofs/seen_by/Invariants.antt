@@ -1,11 +1,8 @@
-use borrow.Author.Rules.{rules}
-use mathlib.Core.Path.{◌≡◌, refl, sym, ap, ◌∙◌}
+use mathlib.Core.Path.{◌≡◌}
 use Prim.Native.Nat.{◌+◌}
-use native.Mathlib.Omega.{arith}
 use lib.ListN.{drop}
 use Rattle.cells.specs.Area.{fit}
 use Rattle.call_lookup.specs.Scan.{seen_by}
-use Rattle.call_lookup.proofs.Scan.{is_entry, next-entry, no_entry}
 use Rattle.call_lookup.proofs.seen_by.Given as goal
 
 abbrev pub invariant-loop-left : goal.invariant-loop-left

@@ -1,5 +1,4 @@
 -- `seen_in`: the entries that the record's cells hold.
-use borrow.Author.Rules.{rules}
 use mathlib.Core.Path.{ap, ◌∙◌}
 use mathlib.Core.List.{List}
 use native.Mathlib.Omega.{arith}

@@ -1,6 +1,4 @@
 -- `seen_one`: the entry's mask is too short, it does not cover the address, or it is the best.
-use borrow.Author.Rules.{rules}
-use borrow.Author.Tests.{not-true, not-false}
 use Rattle.call_lookup.proofs.Scan.{short, missed, better}
 use Rattle.call_lookup.proofs.seen_one.Goals as goal
 

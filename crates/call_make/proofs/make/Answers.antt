@@ -4,8 +4,7 @@ use mathlib.Core.Path.{◌≡◌, sym, ap, ◌∙◌}
 use mathlib.Core.Bool.{true}
 use native.Mathlib.Omega.{arith}
 use lib.ListN.{length}
-use borrow.Author.Tests.{not-true, not-false}
-use Rattle.rules.specs.Settings.{MakeArgs, make_allowed, interface_most}
+use Rattle.rules.specs.Settings.{make_allowed, interface_most}
 use Rattle.rules.proofs.Config.{within_low, within-high}
 use Rattle.call_make.specs.Make.{make_args}
 use Rattle.call_make.proofs.Making.{allowed-used, allowed-size, length-fresh, fresh_cells, made_by, not_made}

@@ -5,9 +5,8 @@ use mathlib.Core.Bool.{true}
 use Prim.Native.Nat.{◌≤◌}
 use native.Mathlib.Omega.{arith}
 use lib.ListN.{get_or}
-use borrow.Author.Tests.{not-true, not-false}
 use Rattle.cells.proofs.Bools.{fails}
-use Rattle.rules.specs.Settings.{MakeArgs, make_allowed, config_of, settings_ok, capacity_most, interface_most, within, differ, own_addresses}
+use Rattle.rules.specs.Settings.{make_allowed, config_of, settings_ok, capacity_most, interface_most, within, differ, own_addresses}
 use Rattle.call_make.specs.Make.{make_args, no_interface}
 use Rattle.rules.proofs.Config.{within_low, within-high, capacity-most}
 use Rattle.call_make.proofs.Making.{four, in_range, four_in_range, own_four, allowed-settings, allowed-used, allowed-differ, size_decides}

@@ -1,13 +1,9 @@
 -- `call_own_packet::own_packet` meets its contract: refused by 1, refused by the rules, or sent. Assumes nothing.
 use mathlib.Core.Path.{◌≡◌, refl, sym, ap, ◌∙◌}
 use mathlib.Core.Bool.{true}
-use mathlib.Core.List.{List}
 use mathlib.Core.Option.{none}
-use Prim.Native.Nat.{ℕ}
-use borrow.Author.Rules.{rules}
 use Rattle.wire.specs.declared.Fault.{Fault}
 use Rattle.wire.specs.Check.{fault_of}
-use Rattle.rules.specs.Calls.{OwnArgs}
 use Rattle.rules.proofs.Faults.{found_number}
 use Rattle.table_layout.specs.Cells.{well_formed}
 use Rattle.table_layout.specs.Facts.{Knows}

@@ -1,7 +1,6 @@
 -- `call_own_packet::send_packet` meets its contract: its steps, one after the other. Assumes nothing.
 use Prim.Native.Nat.{◌+◌, ◌-◌}
 use native.Mathlib.Omega.{arith}
-use borrow.Author.Rules.{rules}
 use Rattle.rules.specs.Settings.{interface_cells}
 use Rattle.table_layout.specs.Layout.{own_place}
 use Rattle.call_own_packet_checks.proofs.Message.{next_is}

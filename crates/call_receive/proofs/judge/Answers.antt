@@ -1,11 +1,8 @@
 -- `call_receive::judge` meets its contract: the first that applies of 20, 21, a message of this node, 24, and one of another. Assumes nothing.
-use mathlib.Core.Path.{◌≡◌, sym, ap, ◌∙◌}
-use mathlib.Core.Bool.{false}
+use mathlib.Core.Path.{sym, ap, ◌∙◌}
 use Prim.Native.Nat.{ℕ}
-use borrow.Author.Rules.{rules}
 use Rattle.wire.specs.Packet.{header, is_u}
-use Rattle.rules.specs.Settings.{Config, is_own, is_broadcast}
-use Rattle.rules.specs.Calls.{ReceiveArgs}
+use Rattle.rules.specs.Settings.{is_own}
 use Rattle.rules.specs.Rules as R
 use Rattle.rules.specs.Table.{table}
 use Rattle.table_layout.specs.Cells.{decode}

@@ -1,6 +1,5 @@
 -- `call_receive::receive` meets its contract: refused by 1, or received behind the check. Assumes nothing.
 use mathlib.Core.Path.{ap, ◌∙◌}
-use borrow.Author.Rules.{rules}
 use Rattle.table_check.proofs.Checked.{ill, known}
 use Rattle.call_receive_arrival.specs.Receiving.{args_of, refused_by}
 use Rattle.call_receive.proofs.Call.{ill_formed}

@@ -1,14 +1,10 @@
 -- `call_receive::receive_checked` meets its contract: refused by the rules, or judged; and what it leaves is a well-formed table's. Assumes nothing.
 use mathlib.Core.Path.{◌≡◌, refl, sym, ap, ◌∙◌, subst}
-use mathlib.Core.List.{List}
 use mathlib.Core.Option.{none}
-use Prim.Native.Nat.{ℕ}
 use native.Mathlib.Omega.{arith}
-use borrow.Author.Rules.{rules}
 use lib.ListN.{length}
 use Rattle.wire.specs.declared.Fault.{Fault}
 use Rattle.wire.specs.Check.{fault_of}
-use Rattle.rules.specs.Calls.{ReceiveArgs}
 use Rattle.rules.specs.Rules as R
 use Rattle.rules.proofs.Faults.{found_number}
 use Rattle.rules.specs.Table.{table}

@@ -1,8 +1,6 @@
 -- `call_receive_arrival::conclude` meets its contract: 25, or 26 with the copy. Assumes nothing.
 use mathlib.Core.Path.{refl}
-use borrow.Author.Tests.{not-true, not-false}
 use Rattle.call_receive_arrival.proofs.Endings.{kept-replies, ttl_positive, passed-replies}
-use borrow.Author.Rules.{rules}
 use Rattle.call_receive_arrival.proofs.conclude.Goals as goal
 
 -- ---- the ends

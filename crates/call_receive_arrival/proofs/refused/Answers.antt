@@ -1,7 +1,6 @@
 -- `call_receive_arrival::refused` meets its contract: the fault's number and place, and no route. Assumes nothing.
 use mathlib.Core.Path.{ap, ◌∙◌}
 use Rattle.rules.specs.Calls.{received_as}
-use borrow.Author.Rules.{rules}
 use Rattle.call_receive_arrival.proofs.refused.Goals as goal
 
 pub returns : goal.returns

@@ -13,7 +13,6 @@ use Rattle.table_layout.proofs.Parts.{encoded-size}
 use Rattle.table_changes.proofs.Parts.{time_set}
 use Rattle.call_receive_arrival.specs.Receiving.{verdict_of, Ends}
 use Rattle.call_receive_arrival.proofs.Tables.{left-knows, left-decode}
-use borrow.Author.Rules.{rules}
 use Rattle.call_receive_arrival.proofs.verdict.Goals as goal
 
 -- the cells that are left
@@ -29,10 +28,9 @@ route_to-requires c =
     left-knows (with_time table e.state c.args.time) (left e) e.valid
 
 pub returns : goal.returns
-returns c e =
-    (
-      c.received_as.ensures
-          ∙ ap (received_as c.args.number 0 0) c.route_to.ensures
-          ∙ ap (λ (x : TableState). verdict_of x c.args.number c.args.originator) (left-decode (with_time table e.state c.args.time) (left e) e.valid),
-      left e,
-    )
+returns c e = (
+  c.received_as.ensures
+      ∙ ap (received_as c.args.number 0 0) c.route_to.ensures
+      ∙ ap (λ (x : TableState). verdict_of x c.args.number c.args.originator) (left-decode (with_time table e.state c.args.time) (left e) e.valid),
+  left e,
+)

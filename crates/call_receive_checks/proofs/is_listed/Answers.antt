@@ -1,6 +1,5 @@
 -- `call_receive_checks::is_listed` meets its contract: one to four cells are compared. Assumes nothing.
 use Rattle.call_receive_checks.proofs.Listed.{listed_is}
-use borrow.Author.Rules.{rules}
 use Rattle.call_receive_checks.proofs.is_listed.Goals as goal
 
 pub returns : goal.returns

@@ -4,7 +4,6 @@ use native.Mathlib.Omega.{arith}
 use Rattle.wire.specs.declared.Header.{Header}
 use Rattle.rules.specs.Calls.{link_of}
 use Rattle.call_receive_checks.proofs.Arguments.{typed_of}
-use borrow.Author.Rules.{rules}
 use Rattle.call_receive_checks.proofs.read_arrival.Goals as goal
 
 pub returns : goal.returns

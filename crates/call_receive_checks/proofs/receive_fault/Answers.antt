@@ -3,7 +3,6 @@ use mathlib.Core.Path.{sym, ap, ◌∙◌}
 use native.Mathlib.Omega.{arith}
 use Rattle.wire.specs.Check.{fault_of}
 use Rattle.call_receive_checks.proofs.Arguments.{fault_2, fault_3, fault_4, fault_packet}
-use borrow.Author.Rules.{rules}
 use Rattle.call_receive_checks.proofs.receive_fault.Goals as goal
 
 -- ---- the ends

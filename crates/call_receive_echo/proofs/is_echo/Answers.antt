@@ -1,6 +1,5 @@
 -- `call_receive_echo::is_echo` meets its contract: D, the address, that the interface has sent, and its last number. Assumes nothing.
 use Rattle.call_receive_echo.proofs.Interfaces.{echo_is}
-use borrow.Author.Rules.{rules}
 use Rattle.call_receive_echo.proofs.is_echo.Goals as goal
 
 pub returns : goal.returns

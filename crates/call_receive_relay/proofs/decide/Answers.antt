@@ -1,6 +1,5 @@
 -- `call_receive_relay::decide` meets its contract: by whether the originator has a record. Assumes nothing.
 use mathlib.Core.Path.{◌≡◌, subst}
-use borrow.Author.Rules.{rules}
 use Rattle.cells.specs.declared.Found.{Found}
 use Rattle.table_originators.specs.Originators.{RecordFound}
 use Rattle.call_receive_relay.proofs.Messages.{missing_timely}

@@ -1,5 +1,4 @@
 -- `call_receive_relay::heard_timely` meets its contract: 11 or 15, or concluded by what the record answers. Assumes nothing.
-use borrow.Author.Rules.{rules}
 use mathlib.Core.Path.{refl, subst}
 use mathlib.Core.List.{List}
 use Prim.Native.Nat.{ℕ, ◌<◌}

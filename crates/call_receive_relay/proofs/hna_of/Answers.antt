@@ -1,5 +1,4 @@
 -- The part after the header, to the packet's end.
-use borrow.Author.Rules.{rules}
 use Rattle.wire.specs.Layout.{header_size}
 use Rattle.wire.proofs.Lent.{rest}
 use Rattle.call_receive_relay.proofs.hna_of.Goals as goal

@@ -1,6 +1,5 @@
 -- `call_receive_relay::is_bidirectional` meets its contract: the part of the neighbour rows is lent. Assumes nothing.
 use mathlib.Core.Path.{ap, ◌∙◌}
-use borrow.Author.Rules.{rules}
 use Rattle.lists.specs.Keyed.{has_key}
 use Rattle.table_neighbours.proofs.Lent.{rows-held, rows_are}
 use Rattle.call_receive_relay.proofs.is_bidirectional.Goals as goal

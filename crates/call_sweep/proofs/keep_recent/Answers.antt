@@ -1,10 +1,8 @@
 -- `call_sweep::keep_recent` meets its contract: the loop's invariant is a pass over the records (`Records.Going`). Assumes nothing.
 use mathlib.Core.Path.{sym, ◌∙◌}
 use mathlib.Core.Logic.{⊎_elim}
-use Prim.Native.Nat.{◌-◌}
 use borrow.Author.Rules.{rules}
-use Rattle.call_sweep.specs.Sweeping.{RecordsHeld}
-use Rattle.call_sweep.proofs.Records.{Going, start, time-read, dropped, moved, along, left-size, kept_are}
+use Rattle.call_sweep.proofs.Records.{start, time-read, dropped, moved, along, left-size, kept_are}
 use Rattle.call_sweep.proofs.keep_recent.Goals as goal
 
 pub loop-left-init : goal.loop-left-init

@@ -1,9 +1,5 @@
-use mathlib.Core.Path.{sym, ◌∙◌}
-use mathlib.Core.Logic.{⊎_elim}
-use Prim.Native.Nat.{◌-◌}
-use borrow.Author.Rules.{rules}
 use Rattle.call_sweep.specs.Sweeping.{RecordsHeld}
-use Rattle.call_sweep.proofs.Records.{Going, start, time-read, dropped, moved, along, left-size, kept_are}
+use Rattle.call_sweep.proofs.Records.{Going}
 use Rattle.call_sweep.proofs.keep_recent.Given as goal
 
 abbrev pub invariant-loop-left : goal.invariant-loop-left

@@ -1,6 +1,5 @@
 -- `call_sweep::sweep` meets its contract: refused by 1, refused by 3, or swept. Assumes nothing.
 use native.Mathlib.Omega.{arith}
-use borrow.Author.Rules.{rules}
 use Rattle.table_check.proofs.Checked.{ill, well, known}
 use Rattle.call_sweep.proofs.Call.{ill_formed, early, sweeps}
 use Rattle.call_sweep.proofs.sweep.Goals as goal

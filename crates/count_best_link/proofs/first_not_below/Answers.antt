@@ -1,11 +1,9 @@
 -- The links are read one by one, up to the first that does not stand below this one: all before it do, so whether all do is asked of the rest.
-use borrow.Author.Rules.{rules}
 use mathlib.Core.Path.{◌≡◌, refl, sym, ap, ◌∙◌}
 use mathlib.Core.Bool.{Bool, true, false, ◌&&◌}
-use Prim.Native.Nat.{ℕ, ◌+◌, ◌-◌, ◌≤◌}
+use Prim.Native.Nat.{ℕ, ◌+◌}
 use native.Mathlib.Omega.{arith}
 use lib.Dec.{eqb}
-use borrow.Author.Tests.{not-true, not-false}
 use Rattle.lists.proofs.Tests.{or_neither}
 use Rattle.window.specs.Window.{shift}
 use Rattle.window.specs.Marks.{word_of}

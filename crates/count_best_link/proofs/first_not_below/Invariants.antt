@@ -1,17 +1,8 @@
-use borrow.Author.Rules.{rules}
-use mathlib.Core.Path.{◌≡◌, refl, sym, ap, ◌∙◌}
-use mathlib.Core.Bool.{Bool, true, false, ◌&&◌}
-use Prim.Native.Nat.{ℕ, ◌+◌, ◌-◌, ◌≤◌}
-use native.Mathlib.Omega.{arith}
-use lib.Dec.{eqb}
-use borrow.Author.Tests.{not-true, not-false}
-use Rattle.lists.proofs.Tests.{or_neither}
-use Rattle.window.specs.Window.{shift}
-use Rattle.window.specs.Marks.{word_of}
-use Rattle.rules.specs.Settings.{Config, Follows}
-use Rattle.rules.specs.Table.{is_highest}
-use Rattle.count_best_link.specs.BestLink.{LeastNotBelow, moved}
-use Rattle.count_best_link.proofs.Leading.{leads, leads_one, leads_all, from, from_start}
+use mathlib.Core.Path.{◌≡◌}
+use Prim.Native.Nat.{ℕ, ◌-◌, ◌≤◌}
+use Rattle.rules.specs.Settings.{Config}
+use Rattle.count_best_link.specs.BestLink.{LeastNotBelow}
+use Rattle.count_best_link.proofs.Leading.{leads, from}
 use Rattle.count_best_link.proofs.first_not_below.Given as goal
 
 abbrev pub invariant-loop-i : goal.invariant-loop-i

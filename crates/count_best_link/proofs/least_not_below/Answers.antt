@@ -1,5 +1,4 @@
 -- One more than `high` less the tie is what a count has to be lower than, for a tie of 0 or 1.
-use borrow.Author.Rules.{rules}
 use mathlib.Core.Path.{◌≡◌, ap, ◌∙◌}
 use Prim.Native.Nat.{ℕ, zero, suc, ◌+◌, ◌-◌, ◌≤◌}
 use native.Mathlib.Omega.{arith}

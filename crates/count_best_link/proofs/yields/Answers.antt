@@ -1,5 +1,4 @@
 -- A link yields where it is this one, or its count, which is that of its word, is lower than `least`.
-use borrow.Author.Rules.{rules}
 use mathlib.Core.Path.{ap}
 use Prim.Native.Nat.{ℕ}
 use mathlib.Core.Bool.{◌||◌}

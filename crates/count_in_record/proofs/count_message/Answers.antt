@@ -1,19 +1,18 @@
 -- The links are recounted on a scratch; the row is written where they and the entries fit, and is then the next record's.
-use borrow.Author.Rules.{rules}
 use mathlib.Core.Path.{◌≡◌, refl, sym, ap, ◌∙◌, subst}
 use mathlib.Core.Bool.{true}
 use mathlib.Core.List.{List}
-use Prim.Native.Nat.{ℕ, ◌*◌, ◌≤◌, ◌<◌}
+use Prim.Native.Nat.{ℕ, ◌*◌, ◌≤◌}
 use native.Mathlib.Omega.{arith}
 use lib.Dec.{ltb}
 use borrow.Author.Tests.{ltb-true, ltb-false}
 use lib.ListN.{length, take, get_or}
 use lib.Seq.{length-take-le}
 use Rattle.lists.proofs.Tests.{and_left, and_right, and_open}
-use Rattle.window.specs.Window.{numbers, new, advance}
+use Rattle.window.specs.Window.{new, advance}
 use Rattle.wire.proofs.Entries.{length-entries}
 use Rattle.rules.specs.Settings.{link_most, entry_most, link_cells}
-use Rattle.rules.specs.Messages.{Message, message_of}
+use Rattle.rules.specs.Messages.{message_of}
 use Rattle.table_record.specs.Links.{links_from}
 use Rattle.table_record.specs.Record.{current_at, links_at}
 use Rattle.table_record.proofs.Rows.{part_size}

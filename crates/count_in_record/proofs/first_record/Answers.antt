@@ -1,11 +1,10 @@
 -- One link with one mark is written, the fields before it, and the entries.
-use borrow.Author.Rules.{rules}
 use mathlib.Core.Path.{refl, sym, ap, ◌∙◌}
 use mathlib.Core.List.{[], ◌∷◌}
-use Prim.Native.Nat.{ℕ, ◌<◌}
+use Prim.Native.Nat.{ℕ}
 use native.Mathlib.Omega.{arith}
 use lib.ListN.{length-set}
-use Rattle.window.specs.Window.{numbers, mark}
+use Rattle.window.specs.Window.{mark}
 use Rattle.window.specs.Marks.{word_of}
 use Rattle.wire.proofs.Entries.{length-entries}
 use Rattle.rules.specs.Settings.{link_cells}

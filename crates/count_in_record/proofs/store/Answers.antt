@@ -1,5 +1,4 @@
 -- Five cells are set, and those of the links are lent to be filled with them, so the row is the address, these, and the entries as they were.
-use borrow.Author.Rules.{rules}
 use mathlib.Core.Path.{ap}
 use Prim.Native.Nat.{◌*◌}
 use native.Mathlib.Omega.{arith}

@@ -1,5 +1,4 @@
 -- The row is stored with the entries that it had; where the message's replace them, they are kept for these.
-use borrow.Author.Rules.{rules}
 use mathlib.Core.Path.{sym, ap, ◌∙◌}
 use mathlib.Core.Bool.{Bool, cond}
 use mathlib.Core.List.{List, ◌∷◌, ◌++◌}

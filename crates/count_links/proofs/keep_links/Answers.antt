@@ -1,16 +1,15 @@
 -- The links are read one by one; each that stays is written after those that did, and what is written with those to come is the goal throughout.
-use borrow.Author.Rules.{rules}
 use mathlib.Core.Logic.{⊎_elim}
-use mathlib.Core.Path.{◌≡◌, refl, sym, ap, ◌∙◌}
+use mathlib.Core.Path.{refl, sym, ap, ◌∙◌}
 use mathlib.Core.List.{◌++◌}
-use Prim.Native.Nat.{◌+◌, ◌-◌, ◌≤◌}
+use Prim.Native.Nat.{◌+◌}
 use native.Mathlib.Omega.{arith}
 use lib.ListN.{length}
 use Rattle.lists.specs.Lists.{keep}
 use Rattle.window.specs.Window.{shift}
 use Rattle.count_best_link.specs.BestLink.{Links}
 use Rattle.count_best_link.proofs.Leading.{from, from_start, moved_none}
-use Rattle.count_links.specs.Links.{stays, Built}
+use Rattle.count_links.specs.Links.{stays}
 use Rattle.count_links.proofs.Cells.{built_along, built_put, keep_one}
 use Rattle.count_links.proofs.keep_links.Goals as goal
 

@@ -1,16 +1,11 @@
-use borrow.Author.Rules.{rules}
-use mathlib.Core.Logic.{⊎_elim}
-use mathlib.Core.Path.{◌≡◌, refl, sym, ap, ◌∙◌}
+use mathlib.Core.Path.{◌≡◌}
 use mathlib.Core.List.{◌++◌}
 use Prim.Native.Nat.{◌+◌, ◌-◌, ◌≤◌}
-use native.Mathlib.Omega.{arith}
 use lib.ListN.{length}
 use Rattle.lists.specs.Lists.{keep}
-use Rattle.window.specs.Window.{shift}
 use Rattle.count_best_link.specs.BestLink.{Links}
-use Rattle.count_best_link.proofs.Leading.{from, from_start, moved_none}
+use Rattle.count_best_link.proofs.Leading.{from}
 use Rattle.count_links.specs.Links.{stays, Built}
-use Rattle.count_links.proofs.Cells.{built_along, built_put, keep_one}
 use Rattle.count_links.proofs.keep_links.Given as goal
 
 abbrev pub invariant-loop-i : goal.invariant-loop-i

@@ -1,5 +1,4 @@
 -- What the search found is the spot: at a link, with its marks, or between two, with none.
-use borrow.Author.Rules.{rules}
 use Prim.Native.Nat.{◌+◌, ◌*◌, ◌≤◌}
 use native.Mathlib.Omega.{arith}
 use lib.ListN.{length}

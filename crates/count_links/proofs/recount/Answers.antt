@@ -1,5 +1,4 @@
 -- This link's marks are shifted and marked, and the links then arranged about its spot are those that the rules leave.
-use borrow.Author.Rules.{rules}
 use native.Mathlib.Omega.{arith}
 use Rattle.table_record.proofs.Links.{length-links}
 use Rattle.count_links.proofs.Places.{recount-done}

@@ -1,5 +1,4 @@
 -- Best is read from the row, and the route is that of its record.
-use borrow.Author.Rules.{rules}
 use mathlib.Core.Path.{refl}
 use Rattle.table_record.specs.Record.{decode_record}
 use Rattle.hear_message.proofs.answer_of.Goals as goal

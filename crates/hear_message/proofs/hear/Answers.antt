@@ -1,15 +1,12 @@
 -- The link is located once: its marks tell a duplicate, and its spot is where the message is counted. What is answered is by the row that is left.
-use borrow.Author.Rules.{rules}
 use mathlib.Core.Path.{◌≡◌, sym, ◌∙◌, subst}
 use mathlib.Core.List.{List}
-use Prim.Native.Nat.{ℕ, ◌<◌}
+use Prim.Native.Nat.{ℕ}
 use native.Mathlib.Omega.{arith}
 use lib.ListN.{get_or}
-use borrow.Author.Tests.{not-true, not-false}
 use Rattle.cells.specs.Find.{Sorted}
-use Rattle.window.specs.Window.{numbers}
 use Rattle.window.proofs.Positions.{inside-lt}
-use Rattle.rules.specs.Settings.{Config, Follows, link_cells, octets}
+use Rattle.rules.specs.Settings.{Config, Follows, link_cells}
 use Rattle.rules.specs.Messages.{Message, message_of}
 use Rattle.table_record.specs.Links.{links_from}
 use Rattle.table_record.specs.Record.{current_at, links_at, links_of, links_part, decode_record}

@@ -1,5 +1,4 @@
 -- What is read of the cells describes the configuration that they hold.
-use borrow.Author.Rules.{rules}
 use mathlib.Core.Path.{refl}
 use mathlib.Core.List.{[], ◌∷◌}
 use lib.ListN.{get_or}

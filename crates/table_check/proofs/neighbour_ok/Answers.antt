@@ -1,13 +1,11 @@
 -- A row passes exactly where `row_tests` does: a number out of range never, and for others the interface's cells decide.
-use borrow.Author.Rules.{rules}
 use mathlib.Core.Path.{sym}
-use Prim.Native.Nat.{◌%◌}
 use native.Mathlib.Omega.{arith}
 use borrow.Author.Tests.{le-ltb}
 use Rattle.lists.specs.Lists.{and}
 use Rattle.cells.proofs.Bools.{fails}
 use Rattle.window.specs.Window.{numbers}
-use Rattle.rules.specs.Settings.{interface_most, is_number}
+use Rattle.rules.specs.Settings.{is_number}
 use Rattle.rules.specs.WellFormed.{row_tests}
 use Rattle.rules.proofs.Parts.{row_parts}
 use Rattle.table_layout.specs.Cells.{config_in, sends_in}

@@ -1,5 +1,4 @@
 -- The loop's invariant: the scan of the rows to come is the scan of all; what follows the rows is zero.
-use borrow.Author.Rules.{rules}
 use mathlib.Core.Path.{◌≡◌, refl, sym, ap, ◌∙◌}
 use Prim.Native.Nat.{◌+◌, ◌*◌}
 use native.Mathlib.Omega.{arith}
@@ -7,12 +6,12 @@ use mathlib.Core.Bool.{Bool, ◌&&◌}
 use lib.ListN.{get_or}
 use mathlib.Core.Logic.{⊎_elim}
 use lib.Dec.{leb, eqb}
-use borrow.Author.Tests.{not-true, not-false, eq-eqb, ne_eqb, eqb-true}
+use borrow.Author.Tests.{eq-eqb, ne_eqb, eqb-true}
 use Rattle.cells.specs.Area.{all_zero}
 use Rattle.lists.proofs.Tests.{and_right}
 use Rattle.rules.specs.Settings.{neighbour_cells}
 use Rattle.table_layout.specs.Layout.{rows_at, neighbours_from}
-use Rattle.table_check.proofs.Turns.{neighbours_from_lem, neighbours_next, neighbours_stop, neighbours_end, neighbour_small, neighbours_done, unused-rows}
+use Rattle.table_check.proofs.Turns.{neighbours_next, neighbours_stop, neighbours_end, neighbour_small, neighbours_done, unused-rows}
 use Rattle.table_check.proofs.neighbours_ok.Goals as goal
 
 pub loop-left-init : goal.loop-left-init

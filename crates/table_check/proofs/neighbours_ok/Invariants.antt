@@ -1,17 +1,9 @@
-use borrow.Author.Rules.{rules}
-use mathlib.Core.Path.{◌≡◌, refl, sym, ap, ◌∙◌}
+use mathlib.Core.Path.{◌≡◌}
 use Prim.Native.Nat.{◌+◌, ◌*◌}
-use native.Mathlib.Omega.{arith}
-use mathlib.Core.Bool.{Bool, ◌&&◌}
 use lib.ListN.{get_or}
-use mathlib.Core.Logic.{⊎_elim}
-use lib.Dec.{leb, eqb}
-use borrow.Author.Tests.{not-true, not-false, eq-eqb, ne_eqb, eqb-true}
-use Rattle.cells.specs.Area.{all_zero}
-use Rattle.lists.proofs.Tests.{and_right}
 use Rattle.rules.specs.Settings.{neighbour_cells}
 use Rattle.table_layout.specs.Layout.{rows_at, neighbours_from}
-use Rattle.table_check.proofs.Turns.{neighbours_from_lem, neighbours_next, neighbours_stop, neighbours_end, neighbour_small, neighbours_done, unused-rows}
+use Rattle.table_check.proofs.Turns.{neighbours_from_lem}
 use Rattle.table_check.proofs.neighbours_ok.Given as goal
 
 abbrev pub invariant-loop-left : goal.invariant-loop-left

@@ -1,5 +1,4 @@
 -- The address of an interface in use, or the first one again.
-use borrow.Author.Rules.{rules}
 use mathlib.Core.Path.{sym, ap}
 use mathlib.Core.Bool.{Bool, cond}
 use lib.ListN.{get_or}

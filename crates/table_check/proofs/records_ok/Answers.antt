@@ -1,5 +1,4 @@
 -- The loop's invariant: the scan of the records to come is the scan of all; what follows them is zero.
-use borrow.Author.Rules.{rules}
 use Rattle.table_record.specs.Record.{address_at}
 use mathlib.Core.Path.{◌≡◌, refl, sym, ap, ◌∙◌, subst}
 use Prim.Native.Nat.{ℕ, ◌+◌, ◌*◌, ◌-◌, ◌<◌}
@@ -7,12 +6,11 @@ use native.Mathlib.Omega.{arith}
 use lib.ListN.{take, drop, get_or}
 use mathlib.Core.Logic.{⊎_elim}
 use lib.Dec.{eqb}
-use borrow.Author.Tests.{not-true, not-false, eq-eqb, ne_eqb, eqb-true}
+use borrow.Author.Tests.{eq-eqb, ne_eqb, eqb-true}
 use Rattle.cells.specs.Area.{all_zero}
 use Rattle.cells.proofs.Lent.{part_first, tail_is}
-use Rattle.rules.specs.Settings.{addresses, Config, record_cells}
-use Rattle.table_record_check.specs.Limits.{Describes}
-use Rattle.table_check.proofs.Turns.{records_from_lem, records-next, records_stop, records_end, records-done}
+use Rattle.rules.specs.Settings.{addresses, record_cells}
+use Rattle.table_check.proofs.Turns.{records-next, records_stop, records_end, records-done}
 use Rattle.table_check.proofs.records_ok.Goals as goal
 
 pub loop-left-init : goal.loop-left-init

@@ -1,17 +1,8 @@
-use borrow.Author.Rules.{rules}
-use Rattle.table_record.specs.Record.{address_at}
-use mathlib.Core.Path.{◌≡◌, refl, sym, ap, ◌∙◌, subst}
-use Prim.Native.Nat.{ℕ, ◌+◌, ◌*◌, ◌-◌, ◌<◌}
-use native.Mathlib.Omega.{arith}
-use lib.ListN.{take, drop, get_or}
-use mathlib.Core.Logic.{⊎_elim}
-use lib.Dec.{eqb}
-use borrow.Author.Tests.{not-true, not-false, eq-eqb, ne_eqb, eqb-true}
-use Rattle.cells.specs.Area.{all_zero}
-use Rattle.cells.proofs.Lent.{part_first, tail_is}
-use Rattle.rules.specs.Settings.{addresses, Config, record_cells}
+use mathlib.Core.Path.{◌≡◌}
+use Prim.Native.Nat.{ℕ, ◌+◌, ◌*◌}
+use Rattle.rules.specs.Settings.{Config, record_cells}
 use Rattle.table_record_check.specs.Limits.{Describes}
-use Rattle.table_check.proofs.Turns.{records_from_lem, records-next, records_stop, records_end, records-done}
+use Rattle.table_check.proofs.Turns.{records_from_lem}
 use Rattle.table_check.proofs.records_ok.Given as goal
 
 abbrev pub invariant-loop-left : goal.invariant-loop-left

@@ -1,12 +1,9 @@
 -- Cells pass exactly where `well_formed` says so: each part that fails answers, and the records decide at the end.
-use borrow.Author.Rules.{rules}
 use mathlib.Core.Path.{◌≡◌, sym, ap, ◌∙◌}
 use mathlib.Core.Bool.{true}
-use mathlib.Core.List.{List}
-use Prim.Native.Nat.{ℕ, ◌≤◌}
+use Prim.Native.Nat.{◌≤◌}
 use native.Mathlib.Omega.{arith}
 use lib.ListN.{length, drop, get_or}
-use borrow.Author.Tests.{not-true, not-false}
 use Rattle.cells.proofs.Bools.{fails}
 use Rattle.cells.proofs.Lent.{tail_is, tail_length}
 use Rattle.table_layout.specs.Layout.{records_from, records_at, time_at}

@@ -1,12 +1,11 @@
 -- The loop's invariant: the test of the rows to come is the test of all.
-use mathlib.Core.Path.{◌≡◌, refl, sym, ap, ◌∙◌}
+use mathlib.Core.Path.{refl, sym, ap, ◌∙◌}
 use mathlib.Core.Logic.{⊎_elim}
-use mathlib.Core.Bool.{Bool, true, ◌&&◌}
-use Prim.Native.Nat.{◌+◌, ◌*◌, ◌-◌, ◌≤◌}
+use mathlib.Core.Bool.{Bool, ◌&&◌}
+use Prim.Native.Nat.{◌+◌, ◌-◌}
 use native.Mathlib.Omega.{arith}
-use borrow.Author.Rules.{rules}
-use borrow.Author.Tests.{not-true, not-false, eq-eqb, ne_eqb, ltb-true}
-use lib.ListN.{length, drop, get_or}
+use borrow.Author.Tests.{eq-eqb, ne_eqb, ltb-true}
+use lib.ListN.{drop, get_or}
 use Rattle.lists.specs.Lists.{all}
 use Rattle.lists.proofs.Tests.{and_left, and_right}
 use Rattle.cells.specs.Pairs.{pair_cells, pairs_of}

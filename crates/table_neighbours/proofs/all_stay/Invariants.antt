@@ -1,18 +1,11 @@
-use mathlib.Core.Path.{◌≡◌, refl, sym, ap, ◌∙◌}
-use mathlib.Core.Logic.{⊎_elim}
-use mathlib.Core.Bool.{Bool, true, ◌&&◌}
-use Prim.Native.Nat.{◌+◌, ◌*◌, ◌-◌, ◌≤◌}
-use native.Mathlib.Omega.{arith}
-use borrow.Author.Rules.{rules}
-use borrow.Author.Tests.{not-true, not-false, eq-eqb, ne_eqb, ltb-true}
-use lib.ListN.{length, drop, get_or}
+use mathlib.Core.Path.{◌≡◌}
+use mathlib.Core.Bool.{true}
+use Prim.Native.Nat.{◌+◌, ◌*◌, ◌≤◌}
+use lib.ListN.{length, drop}
 use Rattle.lists.specs.Lists.{all}
-use Rattle.lists.proofs.Tests.{and_left, and_right}
 use Rattle.cells.specs.Pairs.{pair_cells, pairs_of}
-use Rattle.window.specs.Window.{numbers}
 use Rattle.rules.specs.Settings.{is_number}
 use Rattle.table_neighbours.specs.Neighbours.{stays_after}
-use Rattle.table_neighbours.proofs.Rows.{size, all_one, all_none}
 use Rattle.table_neighbours.proofs.all_stay.Given as goal
 
 abbrev pub invariant-loop-left : goal.invariant-loop-left

@@ -1,6 +1,5 @@
 -- Nothing changes where every row stays, and else the rows that stay are kept.
 use mathlib.Core.Path.{sym, ◌∙◌}
-use borrow.Author.Rules.{rules}
 use Rattle.table_neighbours.proofs.Rows.{all-kept}
 use Rattle.table_neighbours.proofs.drop_old.Goals as goal
 

@@ -2,7 +2,6 @@
 use mathlib.Core.Path.{sym, subst}
 use mathlib.Core.List.{List}
 use Prim.Native.Nat.{ℕ}
-use borrow.Author.Rules.{rules}
 use Rattle.cells.specs.declared.Found.{Found}
 use Rattle.cells.specs.Area.{column}
 use Rattle.cells.specs.Pairs.{pair_cells}

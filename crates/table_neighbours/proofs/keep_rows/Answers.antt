@@ -1,9 +1,8 @@
 -- The loop's invariant is a pass over the rows (`Rows.Going`).
 use mathlib.Core.Path.{sym, ◌∙◌}
 use mathlib.Core.Logic.{⊎_elim}
-use Prim.Native.Nat.{◌-◌}
 use borrow.Author.Rules.{rules}
-use Rattle.table_neighbours.proofs.Rows.{Going, start, number_read, dropped, moved, along, kept-rows, left-rows, left-size}
+use Rattle.table_neighbours.proofs.Rows.{start, number_read, dropped, moved, along, kept-rows, left-rows, left-size}
 use Rattle.table_neighbours.proofs.keep_rows.Goals as goal
 
 pub loop-left-init : goal.loop-left-init

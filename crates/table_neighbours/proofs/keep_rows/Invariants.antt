@@ -1,8 +1,4 @@
-use mathlib.Core.Path.{sym, ◌∙◌}
-use mathlib.Core.Logic.{⊎_elim}
-use Prim.Native.Nat.{◌-◌}
-use borrow.Author.Rules.{rules}
-use Rattle.table_neighbours.proofs.Rows.{Going, start, number_read, dropped, moved, along, kept-rows, left-rows, left-size}
+use Rattle.table_neighbours.proofs.Rows.{Going}
 use Rattle.table_neighbours.proofs.keep_rows.Given as goal
 
 abbrev pub invariant-loop-left : goal.invariant-loop-left

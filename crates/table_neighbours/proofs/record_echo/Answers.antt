@@ -2,7 +2,6 @@
 use mathlib.Core.Path.{subst}
 use Prim.Native.Nat.{◌<◌}
 use native.Mathlib.Omega.{arith}
-use borrow.Author.Rules.{rules}
 use Rattle.cells.specs.declared.Found.{Found}
 use Rattle.cells.specs.Area.{column}
 use Rattle.cells.specs.Pairs.{pair_cells}

@@ -3,7 +3,6 @@ use mathlib.Core.Path.{ap, ◌∙◌}
 use mathlib.Core.Bool.{not, ◌||◌}
 use Prim.Native.Nat.{ℕ, ◌%◌}
 use native.Mathlib.Nat.{mod-eq_of_lt}
-use borrow.Author.Rules.{rules}
 use lib.Dec.{ltb, eqb}
 use Rattle.window.specs.Window.{distance}
 use Rattle.rules.specs.Calls.{interface_of}

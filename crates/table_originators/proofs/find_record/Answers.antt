@@ -1,5 +1,4 @@
 -- The records are lent as rows, and what the search finds among them is where the originator stands or would go; there are fewer than 2^9 of them.
-use borrow.Author.Rules.{rules}
 use Rattle.table_originators.proofs.Records.{lent_sorted, sought}
 use Rattle.table_originators.proofs.find_record.Goals as goal
 

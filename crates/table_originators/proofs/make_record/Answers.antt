@@ -1,14 +1,12 @@
 -- The records from the place on are moved up, and the row that the first message makes is written there; its route is answered.
-use borrow.Author.Rules.{rules}
 use mathlib.Core.Path.{◌≡◌, refl, ap, ◌∙◌}
 use mathlib.Core.List.{List}
-use Prim.Native.Nat.{ℕ, ◌+◌, ◌*◌, ◌-◌, ◌≤◌, ◌<◌}
+use Prim.Native.Nat.{ℕ, ◌+◌, ◌*◌, ◌-◌, ◌≤◌}
 use native.Mathlib.Omega.{arith}
 use lib.ListN.{length, take, drop, set, get_or, length-set}
 use Rattle.cells.proofs.Lent.{part_length}
-use Rattle.window.specs.Window.{numbers}
-use Rattle.rules.specs.Settings.{Config, record_cells}
-use Rattle.rules.specs.Messages.{Message, message_of}
+use Rattle.rules.specs.Settings.{record_cells}
+use Rattle.rules.specs.Messages.{message_of}
 use Rattle.rules.specs.Table.{first_record}
 use Rattle.table_layout.specs.Layout.{records_at, records_from}
 use Rattle.table_layout.specs.Cells.{decode}
@@ -37,13 +35,12 @@ row-size c =
     c.first_record-route.auto.row ∙ part_length (opened c.args.cells.now c.args.originator c.args.i c.requires.0 c.requires.1 c.move_up.new.cells) (record_place c.args.i) record_cells (opened_fits c.args.cells.now c.args.originator c.args.i c.requires.0 c.requires.1 c.move_up.new.cells c.move_up.ensures)
 
 pub first_record-route-requires : goal.first_record-route-requires
-first_record-route-requires c =
-    (
-      part_length (opened c.args.cells.now c.args.originator c.args.i c.requires.0 c.requires.1 c.move_up.new.cells) (record_place c.args.i) record_cells (row_fits (goal.at.first_record-route-requires c).After-move_up),
-      c.policy_of-p.ensures.1,
-      c.requires.2,
-      c.requires.3,
-    )
+first_record-route-requires c = (
+  part_length (opened c.args.cells.now c.args.originator c.args.i c.requires.0 c.requires.1 c.move_up.new.cells) (record_place c.args.i) record_cells (row_fits (goal.at.first_record-route-requires c).After-move_up),
+  c.policy_of-p.ensures.1,
+  c.requires.2,
+  c.requires.3,
+)
 
 pub shape_of-cells : goal.shape_of-cells
 shape_of-cells c =

@@ -1,5 +1,4 @@
 -- The policy is read from the settings' cells, which a well-formed table has in their ranges.
-use borrow.Author.Rules.{rules}
 use mathlib.Core.Path.{refl}
 use Rattle.table_layout.specs.Cells.{decode}
 use Rattle.table_originators.proofs.policy_of.Goals as goal

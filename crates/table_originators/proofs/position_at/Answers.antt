@@ -1,5 +1,4 @@
 -- The test is made of the table's window and the current number of the record's row.
-use borrow.Author.Rules.{rules}
 use mathlib.Core.Path.{sym, ap, ◌∙◌, subst}
 use mathlib.Core.List.{List}
 use Prim.Native.Nat.{ℕ}

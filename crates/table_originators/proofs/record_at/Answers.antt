@@ -1,5 +1,4 @@
 -- The row lent is the cells of record i.
-use borrow.Author.Rules.{rules}
 use Rattle.cells.proofs.Lent.{part_is}
 use Rattle.rules.specs.Settings.{record_cells}
 use Rattle.table_originators.specs.Originators.{record_place}

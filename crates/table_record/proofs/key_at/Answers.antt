@@ -1,5 +1,4 @@
 -- `key_at` reads the first cell of the link.
-use borrow.Author.Rules.{rules}
 use mathlib.Core.Path.{sym}
 use Rattle.table_record.proofs.Links.{key_cell}
 use Rattle.table_record.proofs.key_at.Goals as goal

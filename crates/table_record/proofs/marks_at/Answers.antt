@@ -1,5 +1,4 @@
 -- `marks_at` reads the cell of the link's word.
-use borrow.Author.Rules.{rules}
 use mathlib.Core.Path.{sym}
 use Rattle.window.specs.Marks.{word_of}
 use Rattle.table_record.proofs.Links.{word_cell}

@@ -1,5 +1,4 @@
 -- `marks_of` gives the marks at the place that was found, or none. Its places are named once, each by the one before.
-use borrow.Author.Rules.{rules}
 use mathlib.Core.Path.{◌∙◌, subst}
 use Rattle.cells.specs.Area.{column}
 use Rattle.cells.specs.declared.Found.{Found}

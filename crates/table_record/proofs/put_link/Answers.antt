@@ -1,5 +1,4 @@
 -- `put_link` writes the two cells of the link.
-use borrow.Author.Rules.{rules}
 use native.Mathlib.Omega.{arith}
 use lib.ListN.{length-set}
 use Rattle.window.specs.Marks.{word_of}

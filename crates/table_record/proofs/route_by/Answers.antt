@@ -1,5 +1,4 @@
 -- `route_by` takes the pair apart and counts the marks.
-use borrow.Author.Rules.{rules}
 use mathlib.Core.Path.{ap}
 use Prim.Native.Nat.{ℕ}
 use Rattle.rules.specs.Calls.{neighbour_of, interface_of, route_by}

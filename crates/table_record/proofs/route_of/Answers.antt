@@ -1,5 +1,4 @@
 -- `route_of` gives the route by the marks of the best link among those in the part that was lent.
-use borrow.Author.Rules.{rules}
 use mathlib.Core.Path.{sym, ap, ◌∙◌, subst}
 use mathlib.Core.List.{List}
 use Prim.Native.Nat.{ℕ}

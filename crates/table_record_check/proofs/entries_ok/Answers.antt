@@ -1,16 +1,14 @@
 -- `entries_ok`: the faults so far are none and the entries to come pass exactly where all do.
-use borrow.Author.Rules.{rules}
-use mathlib.Core.Path.{◌≡◌, refl, sym, ap, ◌∙◌}
+use mathlib.Core.Path.{refl, sym, ap, ◌∙◌}
 use mathlib.Core.Bool.{Bool, ◌&&◌, and-true}
-use Prim.Native.Nat.{ℕ, ◌-◌, ◌≤◌}
+use Prim.Native.Nat.{ℕ}
 use native.Mathlib.Omega.{arith}
 use lib.Dec.{eqb}
-use lib.ListN.{drop}
 use Rattle.lists.specs.Lists.{and}
 use Rattle.cells.specs.Area.{fit}
 use Rattle.cells.proofs.Areas.{length-fit, get_or_fit}
 use Rattle.cells.proofs.Keys.{joined-next, joined_end}
-use Rattle.rules.specs.WellFormed.{entry_tests, entries_ok}
+use Rattle.rules.specs.WellFormed.{entry_tests}
 use Rattle.table_record_check.proofs.entries_ok.Goals as goal
 
 pub loop-i-init : goal.loop-i-init

@@ -1,5 +1,4 @@
 -- `entries_part_ok` makes the test of the entries in their part, then that the rest of the part is zero.
-use borrow.Author.Rules.{rules}
 use mathlib.Core.Path.{ap, ◌∙◌}
 use mathlib.Core.Bool.{◌&&◌}
 use mathlib.Core.List.{List}

@@ -1,5 +1,4 @@
 -- `entry_fault`: what is beyond an address before the mask, and what a mask that is too long carries over.
-use borrow.Author.Rules.{rules}
 use Rattle.table_record_check.proofs.Checks.{entry-tests}
 use Rattle.table_record_check.proofs.entry_fault.Goals as goal
 

@@ -1,5 +1,4 @@
 -- `fields_ok` makes the tests of the fields before the links, each at once.
-use borrow.Author.Rules.{rules}
 use borrow.Author.Tests.{ltb-true, leb-true}
 use Rattle.lists.proofs.Tests.{and_left, and_right}
 use mathlib.Core.Path.{sym, ◌∙◌}

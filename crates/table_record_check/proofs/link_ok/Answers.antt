@@ -1,8 +1,6 @@
 -- `link_ok` makes the tests of the pair, and then of the marks.
-use borrow.Author.Rules.{rules}
 use mathlib.Core.Path.{sym, ap, ◌∙◌}
 use mathlib.Core.Bool.{Bool, ◌&&◌}
-use borrow.Author.Tests.{not-true, not-false}
 use Rattle.window.specs.Marks.{word_of}
 use Rattle.table_record_check.specs.Limits.{marks_ok}
 use Rattle.table_record_check.proofs.Checks.{pair_small, link-tests}

@@ -1,16 +1,11 @@
-use borrow.Author.Rules.{rules}
-use mathlib.Core.Path.{◌≡◌, refl, sym, ◌∙◌}
+use mathlib.Core.Path.{◌≡◌}
 use mathlib.Core.Bool.{◌||◌}
-use mathlib.Core.Logic.{⊎_elim}
 use Prim.Native.Nat.{ℕ, ◌+◌}
-use native.Mathlib.Omega.{arith}
-use lib.Dec.{eqb}
-use borrow.Author.Tests.{not-true, not-false, eq-eqb, ne_eqb, eqb-true}
 use Rattle.lists.specs.Keyed.{has_key}
 use Rattle.rules.specs.Settings.{Config}
 use Rattle.table_record.proofs.Links.{links_left}
 use Rattle.table_record_check.specs.Limits.{Describes}
-use Rattle.table_record_check.proofs.Checks.{links_from_lem, links-next, links_stop, links_end, held_next, held_end, links-done}
+use Rattle.table_record_check.proofs.Checks.{links_from_lem}
 use Rattle.table_record_check.proofs.links_ok.Given as goal
 
 abbrev pub invariant-loop-left : goal.invariant-loop-left

@@ -1,5 +1,4 @@
 -- `links_part_ok` makes the tests of the links in their part, then that the rest of the part is zero. Its places are named once, each by the one before.
-use borrow.Author.Rules.{rules}
 use mathlib.Core.Path.{ap, ◌∙◌}
 use mathlib.Core.List.{List}
 use mathlib.Core.Bool.{◌&&◌}

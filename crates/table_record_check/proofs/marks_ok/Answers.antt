@@ -1,5 +1,4 @@
 -- `marks_ok` answers whether the marks lie in the window and there are some, or none are needed.
-use borrow.Author.Rules.{rules}
 use mathlib.Core.Path.{sym, ◌∙◌}
 use mathlib.Core.Bool.{◌&&◌, ◌||◌, not}
 use lib.Dec.{eqb}

@@ -1,8 +1,6 @@
 -- `record_ok` makes the tests of the fields, then of the links' part and of the entries'.
-use borrow.Author.Rules.{rules}
 use mathlib.Core.Path.{sym, ap, ◌∙◌}
 use mathlib.Core.Bool.{Bool, ◌&&◌, false≢true}
-use borrow.Author.Tests.{not-true, not-false}
 use Rattle.table_record_check.specs.Limits.{links_part_ok, entries_part_ok}
 use Rattle.table_record_check.proofs.Checks.{record_tests_lem}
 use Rattle.table_record_check.proofs.record_ok.Goals as goal

@@ -1,10 +1,8 @@
 -- The head passes exactly where `head_ok` says so: too few cells never do; then the settings decide, then the numbers of rows and of cells.
-use borrow.Author.Rules.{rules}
 use mathlib.Core.Path.{◌≡◌, sym, ◌∙◌}
 use mathlib.Core.Bool.{true, false}
 use Prim.Native.Nat.{◌≤◌}
 use native.Mathlib.Omega.{arith}
-use borrow.Author.Tests.{not-true, not-false}
 use Rattle.rules.specs.Settings.{settings_ok, capacity_most}
 use Rattle.rules.proofs.Config.{capacity-most}
 use Rattle.table_settings.proofs.Checks.{head_by, head_short}

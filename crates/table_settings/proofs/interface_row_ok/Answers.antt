@@ -1,5 +1,4 @@
 -- A row passes exactly where every test of `interface_row_tests` does.
-use borrow.Author.Rules.{rules}
 use mathlib.Core.Bool.{and-true, and_assoc}
 use Rattle.table_settings.proofs.interface_row_ok.Goals as goal
 

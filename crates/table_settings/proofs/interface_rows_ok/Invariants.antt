@@ -1,17 +1,10 @@
-use borrow.Author.Rules.{rules}
-use mathlib.Core.Path.{◌≡◌, refl, sym, ap, ◌∙◌}
-use Prim.Native.Nat.{ℕ, ◌+◌, ◌*◌, ◌-◌}
-use native.Mathlib.Omega.{arith}
+use mathlib.Core.Path.{◌≡◌}
+use Prim.Native.Nat.{◌+◌, ◌*◌}
 use lib.ListN.{drop}
-use mathlib.Core.Logic.{⊎_elim}
-use lib.Dec.{eqb}
-use borrow.Author.Tests.{not-true, not-false, eq-eqb, ne_eqb, eqb-true}
 use Rattle.lists.specs.Lists.{all}
-use Rattle.cells.specs.Area.{all_zero, rows_of}
-use Rattle.cells.proofs.Lent.{tail_is}
+use Rattle.cells.specs.Area.{rows_of}
 use Rattle.rules.specs.Settings.{interface_cells}
 use Rattle.table_settings.specs.Check.{interface_row_ok}
-use Rattle.table_settings.proofs.Turns.{interfaces-next, interfaces_stop, interfaces_end, first_then}
 use Rattle.table_settings.proofs.interface_rows_ok.Given as goal
 
 abbrev pub invariant-loop-left : goal.invariant-loop-left

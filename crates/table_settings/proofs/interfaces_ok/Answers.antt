@@ -1,5 +1,4 @@
 -- The interface rows pass exactly where `interfaces_ok` says so: each by itself, and their own addresses differ.
-use borrow.Author.Rules.{rules}
 use Rattle.table_settings.proofs.Own.{interfaces_are}
 use Rattle.table_settings.proofs.interfaces_ok.Goals as goal
 
