@@ -16,7 +16,7 @@ use rules::{
 
 // The interface rows as C passes them: an array can't be a parameter there.
 #[repr(C)]
-#[derive(Drop)]
+#[derive(Clone, Copy)]
 pub struct Interfaces {
     pub row: [Interface; 4],
     pub used: u64,
@@ -73,12 +73,11 @@ pub fn batman_receive_burst(
 {
     let room = answers.len();
     let got = call_burst::burst(cells, octets, lengths, senders, interfaces, time, out, room);
-    let answer = Burst {
+    call_burst_rows::fill_answers(answers, got);
+    Burst {
         number: got.number,
         written: got.written,
-    };
-    call_burst_rows::fill_answers(answers, got);
-    answer
+    }
 }
 
 // Writes an interface's next own packet at the start of the output.
@@ -124,10 +123,9 @@ pub fn batman_list(cells: &[u64], originator: u32, rows: &mut [LinkRow]) -> List
 {
     let room = rows.len();
     let got = call_list::links_of(cells, originator, room);
-    let answer = Listed {
+    call_list::fill_rows(rows, got);
+    Listed {
         number: got.number,
         filled: got.n as u64,
-    };
-    call_list::fill_rows(rows, got);
-    answer
+    }
 }

@@ -14,7 +14,7 @@ pub const ROWS_MOST: usize = PACKETS_MOST as usize;
 
 // What a burst answers: the first n rows are those of its packets, `written` octets of the output are written, and `number` is 0 or a refusal, which has
 // no rows.
-#[derive(Drop)]
+#[derive(Clone, Copy)]
 pub struct Answers {
     pub rows: [Received; ROWS_MOST],
     pub n: usize,

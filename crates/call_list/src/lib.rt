@@ -29,7 +29,7 @@ use wire::refusals::{NOT_WELL_FORMED, SHORT_OUTPUT};
 const ROWS_MOST: usize = LINKS_MOST as usize;
 
 // What is looked up: the first n rows are those of the links held, and `number` is 0 or a refusal, which has no rows.
-#[derive(Drop)]
+#[derive(Clone, Copy)]
 pub struct Links {
     pub rows: [LinkRow; ROWS_MOST],
     pub n: usize,

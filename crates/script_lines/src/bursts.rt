@@ -14,7 +14,7 @@ pub const BUFFER_MOST: usize = 16384;
 const ROWS_MOST: u64 = 40;
 
 // A burst's lists, and how many members each has. `good` is false where one could not be read, or a word follows the last.
-#[derive(Drop)]
+#[derive(Clone, Copy)]
 pub struct Lists {
     pub lengths: [u64; NUMBERS_MOST],
     pub senders: [u32; NUMBERS_MOST],
@@ -26,7 +26,7 @@ pub struct Lists {
 }
 
 // A burst: its numbers, how many octets its buffer has, and its lists. `good` is false where the line could not be read.
-#[derive(Drop)]
+#[derive(Clone, Copy)]
 pub struct Burst {
     pub value: [u64; NUMBERS_MOST],
     pub octets: usize,
@@ -65,12 +65,11 @@ pub fn read(line: &[u8], at: usize, buffer: &mut [u8]) -> Burst
     let n = read_numbers(line, at, &limits);
     let o = next_octets(line, n.end, buffer);
     let lists = read_lists(line, o.end);
-    let good = n.good & o.good & lists.good;
     let value = n.value;
     Burst {
         value,
         octets: o.count,
         lists,
-        good,
+        good: n.good & o.good & lists.good,
     }
 }

@@ -30,7 +30,7 @@ pub struct Named {
 }
 
 // A call, its numbers, and how many octets it carries.
-#[derive(Drop)]
+#[derive(Clone, Copy)]
 pub struct Request {
     pub call: Call,
     pub value: [u64; NUMBERS_MOST],

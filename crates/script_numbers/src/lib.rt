@@ -35,7 +35,7 @@ pub enum Number {
 }
 
 // The numbers read, and where the last one ended. `good` is false where one could not be read.
-#[derive(Drop)]
+#[derive(Clone, Copy)]
 pub struct Numbers {
     pub value: [u64; NUMBERS_MOST],
     pub end: usize,
@@ -43,7 +43,7 @@ pub struct Numbers {
 }
 
 // A list's members, how many there are, and where the list ended. `good` is false where it could not be read.
-#[derive(Drop)]
+#[derive(Clone, Copy)]
 pub struct Members {
     pub value: [u64; NUMBERS_MOST],
     pub count: usize,
@@ -52,7 +52,7 @@ pub struct Members {
 }
 
 // The same for a list of addresses.
-#[derive(Drop)]
+#[derive(Clone, Copy)]
 pub struct Addresses {
     pub value: [u32; NUMBERS_MOST],
     pub count: usize,
