@@ -1,2 +1,3 @@
 -- Laws of the check of a burst.
+pub mod Sums
 pub mod Tests
