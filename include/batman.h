@@ -1,7 +1,7 @@
 /* The mesh routing core: B.A.T.M.A.N. originator messages by the Internet-Draft of March 2008.
  *
  * Link with libbatman.a (x86-64 Linux; `make archive` writes target/staticlib/libbatman.a). The library has no state of its own,
- * allocates nothing, calls nothing but the C library's memcpy and memset, and is free to be called from several threads on
+ * allocates nothing, calls nothing but the C library's memcpy, memmove and memset, and is free to be called from several threads on
  * different buffers. */
 #ifndef BATMAN_H
 #define BATMAN_H
