@@ -1,4 +1,4 @@
-// The calls of batman.h, for programs in Rattle; crate batman_c exports each to C under the same name. None has a `requires`.
+// The calls of batman.h, for programs in Rattle; crate batman_c exports each to C under the same name, since an export is its own function. None has a `requires`.
 #![tactic(auto)]
 
 ghost use Rattle.std.specs.Prelude.{◌≡◌};
@@ -72,11 +72,18 @@ pub fn batman_receive_burst(
     ensures { Promised cells.old (C.burst (burst_args octets.now lengths.now senders.now interfaces.now time out.old answers.old)) (C.answered_each (C.burst_received result) out.new answers.new) cells.new }
 {
     let room = answers.len();
-    let got = call_burst::burst(cells, octets, lengths, senders, interfaces, time, out, room);
-    call_burst_rows::fill_answers(answers, got);
-    Burst {
-        number: got.number,
-        written: got.written,
+    match call_burst::burst(cells, octets, lengths, senders, interfaces, time, out, room) {
+        Ok(got) => {
+            call_burst_rows::fill_answers(answers, got);
+            Burst {
+                number: 0,
+                written: got.written,
+            }
+        }
+        Err(refusal) => Burst {
+            number: refusal.number(),
+            written: 0,
+        },
     }
 }
 
@@ -121,11 +128,17 @@ pub fn batman_lookup(cells: &[u64], address: u32) -> Located
 pub fn batman_list(cells: &[u64], originator: u32, rows: &mut [LinkRow]) -> Listed
     ensures { Promised cells.now (C.list originator rows.old) (C.answered_filling (C.listed result) rows.new) cells.now }
 {
-    let room = rows.len();
-    let got = call_list::links_of(cells, originator, room);
-    call_list::fill_rows(rows, got);
-    Listed {
-        number: got.number,
-        filled: got.n as u64,
+    match call_list::links_of(cells, originator, rows.len()) {
+        Ok(got) => {
+            call_list::fill_rows(rows, got);
+            Listed {
+                number: 0,
+                filled: got.n as u64,
+            }
+        }
+        Err(refusal) => Listed {
+            number: refusal.number(),
+            filled: 0,
+        },
     }
 }

@@ -2,16 +2,15 @@
 use Rattle.std.specs.Prelude.{◌≡◌, List, Bool, cond, ℕ, ◌≤◌, length}
 use Rattle.lists.specs.Lists.{keep}
 use Rattle.lists.specs.Keyed.{has_key}
-use Rattle.cells.specs.declared.Found.{Found}
-use Rattle.cells.specs.declared.Found.TheVariants.{At, Place}
+use Rattle.std.specs.Prelude.{Result, Ok, Err}
 use Rattle.table_layout.specs.Cells.{decode, well_formed}
 use Rattle.table_originators.specs.Originators.{rounds_most}
 use Rattle.bench_search.specs.declared.Searches.{Searches}
 
 -- 1 for a record that was found, 0 for a place
-abbrev pub held_at : Found → ℕ
-held_at (At i) = 1
-held_at (Place i) = 0
+abbrev pub held_at : Result ℕ ℕ → ℕ
+held_at (Ok i) = 1
+held_at (Err i) = 0
 
 -- whether originator o has a record
 abbrev pub is_held : List ℕ → (o : ℕ) → Bool

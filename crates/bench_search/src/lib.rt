@@ -5,10 +5,9 @@ ghost use Rattle.std.specs.Prelude.{◌≡◌, ℕ, ◌≤◌};
 ghost use Rattle.table_layout.specs.Facts.{Knows};
 ghost use Rattle.bench_search.specs.Searches.{held_at, SearchesIn, SearchesOf};
 
-use cells::Found;
 use table_check::well_formed;
 use table_originators::find_record;
-use wire::refusals::NOT_WELL_FORMED;
+use wire::refusals::Refusal;
 
 // Refusal 1, or 0 with how many of the originators have a record and the most rounds that the search for one of them took.
 #[repr(C)]
@@ -20,19 +19,16 @@ pub struct Searches {
 }
 
 // 1 for a record that was found, 0 for a place.
-fn held_at(f: Found) -> u64
+fn held_at(f: Result<usize, usize>) -> u64
     ensures { result ≡ held_at f }
 {
-    match f {
-        Found::At(_) => 1,
-        Found::Place(_) => 0,
-    }
+    u64::from(f.is_ok())
 }
 
 fn larger(a: u64, b: u64) -> u64
     ensures { (a ≤ result) × (b ≤ result) × ((m : ℕ) → a ≤ m → b ≤ m → result ≤ m) }
 {
-    if a < b { b } else { a }
+    a.max(b)
 }
 
 // The searches in a table that is well-formed.
@@ -42,13 +38,11 @@ fn search_each(cells: &[u64], originators: &[u32]) -> Searches
 {
     let mut held = 0;
     let mut most = 0;
-    let mut i = 0;
-    while i < originators.len() {
-        let s = find_record(cells, originators[i]);
+    for originator in originators {
+        let s = find_record(cells, *originator);
         let found = s.found;
         held += held_at(found);
         most = larger(most, s.rounds as u64);
-        i += 1;
     }
     Searches {
         number: 0,
@@ -64,7 +58,7 @@ pub extern "C" fn bench_search(cells: &[u64], originators: &[u32]) -> Searches
 {
     if !well_formed(cells) {
         return Searches {
-            number: NOT_WELL_FORMED,
+            number: Refusal::NotWellFormed.number(),
             held: 0,
             most: 0,
         };

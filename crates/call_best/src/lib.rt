@@ -13,24 +13,18 @@ ghost use Rattle.table_layout.specs.Facts.{Knows};
 ghost use Rattle.table_originators.specs.Originators.{Holds, standing_at};
 ghost use Rattle.call_best.specs.Best.{asked_as};
 
-use cells::Found;
 use rules::{Asked, Route};
 use table_check::well_formed;
 use table_layout::WINDOW;
 use table_originators::{find_record, record_at};
 use table_record::route_of;
-use wire::refusals::NOT_WELL_FORMED;
+use wire::refusals::Refusal;
 
 // No route: all zeros.
 pub fn no_route() -> Route
     ensures { result ≡ no_route }
 {
-    Route {
-        neighbour: 0,
-        interface: 0,
-        count: 0,
-        window: 0,
-    }
+    Route::default()
 }
 
 // The route of the record at place i.
@@ -46,10 +40,9 @@ pub fn route_to(cells: &[u64], originator: u32) -> Route
     requires { Knows cells.now }
     ensures { result ≡ route_of table (decode cells.now).config (lookup originator (decode cells.now).records) }
 {
-    let f = find_record(cells, originator).found;
-    match f {
-        Found::At(i) => route_at(cells, i),
-        Found::Place(_) => no_route(),
+    match find_record(cells, originator).found {
+        Ok(i) => route_at(cells, i),
+        Err(_) => no_route(),
     }
 }
 
@@ -65,7 +58,7 @@ pub fn best(cells: &[u64], originator: u32) -> Asked
     ensures { Performed cells.now (question originator) (answered (asked result)) cells.now }
 {
     if !well_formed(cells) {
-        return asked_as(NOT_WELL_FORMED, no_route());
+        return asked_as(Refusal::NotWellFormed.number(), no_route());
     }
     asked_as(0, route_to(cells, originator))
 }

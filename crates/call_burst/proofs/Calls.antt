@@ -23,9 +23,13 @@ use Rattle.table_layout.proofs.Bursts.{as_singles}
 use Rattle.table_check.proofs.Knowing.{well_formed_lem}
 use Rattle.table_changes.proofs.Performing.{not-asked, refuses}
 use Rattle.call_burst_checks.specs.Sizes.{Sizes}
+use Rattle.std.specs.Prelude.{Result, Ok, Err}
+use Rattle.wire.specs.declared.refusals.Refusal.{Refusal}
+use Rattle.wire.specs.declared.refusals.Refusal.TheVariants.{NotWellFormed, WrongBurst}
+use Rattle.wire.specs.Refusals.{fault_by}
 use Rattle.call_burst_rows.specs.declared.Answers.{Answers}
 use Rattle.call_burst_rows.specs.Answers.{no_answer}
-use Rattle.call_burst.specs.Bursts.{burst_args, Enough, Receives, AnswersNone, answer_of, Settles}
+use Rattle.call_burst.specs.Bursts.{burst_args, Enough, Receives, answer_of, answers_of, Settles}
 
 module _ (c b ns ss is : List ℕ) (t : ℕ) (o : List ℕ) (room : ℕ) where
   abbrev args : List Received → BurstArgs
@@ -48,36 +52,23 @@ module _ (c b ns ss is : List ℕ) (t : ℕ) (o : List ℕ) (room : ℕ) where
 
   -- ---- refused: no answer is written
 
-  none_settles : (m : ℕ) (got : Answers) → Typed → AnswersNone m got
-      → ((lent : List Received) → length lent ≡ room → Performed c (burst (args lent)) (refusal (burst (args lent)) (numbered m)) c) → Settles c b ns ss is t o room c o got
+  refused : (r : Refusal) → Typed → ((lent : List Received) → length lent ≡ room → Performed c (burst (args lent)) (refusal (burst (args lent)) (fault_by r)) c) → Settles c b ns ss is t o room c o (Err r)
   unfolding refusal written_to
-  none_settles m got y f p =
-      let z = f.size in
-      record {
-        few = omega arith;
-        fits = omega arith;
-        call = λ lent e. (let q = p lent e in record {
-          performed = record {
-            replies = (λ j. answered_each (burst_received (burst_as (f.number j) (f.written j))) o (written_to (take (z j) got.rows) lent)) ∙ q.replies;
-            leaves = q.leaves;
-          };
-          typed = y;
-        });
-      }
+  refused r y p = record { fits = tt; call = λ lent e. record { performed = p lent e; typed = y } }
 
   -- refusal 1
-  pub not_well_formed : (got : Answers) → Typed → well_formed c ≡ false → AnswersNone 1 got → Settles c b ns ss is t o room c o got
-  not_well_formed got y h f = none_settles 1 got y f (λ lent e. not-asked c (burst (args lent)) h)
+  pub not_well_formed : Typed → well_formed c ≡ false → Settles c b ns ss is t o room c o (Err NotWellFormed)
+  not_well_formed y h = refused NotWellFormed y (λ lent e. not-asked c (burst (args lent)) h)
 
   module _ (k : Knows c) where
     well : well_formed c ≡ true
     well = well_formed_lem c k
 
     -- refusal 14
-    pub unfit : (got : Answers) → Typed → Answered false → AnswersNone 14 got → Settles c b ns ss is t o room c o got
+    pub unfit : Typed → Answered false → Settles c b ns ss is t o room c o (Err WrongBurst)
     unfolding step unless
-    unfit got y f n =
-        none_settles 14 got y n (λ lent e. refuses c (burst (args lent)) well well (numbered 14)
+    unfit y f =
+        refused WrongBurst y (λ lent e. refuses c (burst (args lent)) well well (numbered 14)
         (ap (λ (r : Bool). unless (given (not r) 14) (refuse table (burst (args lent)) (decode c)) (take_burst table (decode c) (args lent))) (sym (fits_by false f lent e))))
 
     -- ---- not refused
@@ -98,25 +89,23 @@ module _ (c b ns ss is : List ℕ) (t : ℕ) (o : List ℕ) (room : ℕ) where
             adds = eqb-true (sum ns) (length b) (passed 4);
           }
 
-      pub received_settles : (d q : List ℕ) (got : Answers) → Typed → Receives c b ns ss is t o d q got → Settles c b ns ss is t o room d q got
+      pub received_settles : (d q : List ℕ) (got : Answers) → Typed → Receives c b ns ss is t o d q got → Settles c b ns ss is t o room d q (Ok got)
       received_settles d q got y r =
           let n = r.size in
           let m : length ns ≤ room = subst (λ (j : ℕ). length ns ≤ j) (length-replicate room no_answer) (leb-true (length ns) (length (replicate room no_answer)) (passed 3)) in
           record {
-            few = r.few;
-            fits = omega arith;
+            fits = (r.few, omega arith);
             call = λ lent e. (let s = as_singles c (args lent) well y (sym (fits_by true f lent e)) ∙ ap (λ (x : Each (List ℕ)). record { reply = burst_reply lent x; cells = x.state }) r.each in record {
               performed = record {
-                replies = ap (λ (j : ℕ). answered_each (burst_received (burst_as j got.written)) q (written_to (take got.n got.rows) lent)) r.number ∙ sym (ap (λ (x : Done). x.reply) s);
+                replies = sym (ap (λ (x : Done). x.reply) s);
                 leaves = sym (ap (λ (x : Done). x.cells) s);
               };
               typed = y;
             });
           }
 
--- what the call promises, once the answers are written
-pub promised : (c b ns ss is : List ℕ) (t : ℕ) (o d q : List ℕ) (got : Answers) (entry exit : List Received) → Settles c b ns ss is t o (length entry) d q got
-    → exit ≡ written_to (take got.n got.rows) entry → Promised c (burst (burst_args b ns ss is t o entry)) (answered_each (burst_received (answer_of got)) q exit) d
-promised c b ns ss is t o d q got entry exit s e =
-    let p = s.call entry refl in
-    record { performed = record { replies = ap (answered_each (burst_received (answer_of got)) q) e ∙ p.performed.replies; leaves = p.performed.leaves }; typed = p.typed }
+-- what a refused call promises: the lent rows stay as they are
+pub refused_promised : (c b ns ss is : List ℕ) (t : ℕ) (o d q : List ℕ) (r : Refusal) (lent : List Received) → Settles c b ns ss is t o (length lent) d q (Err r)
+    → Promised c (burst (burst_args b ns ss is t o lent)) (answered_each (burst_received (burst_as (fault_by r).number 0)) q lent) d
+unfolding written_to
+refused_promised c b ns ss is t o d q r lent s = s.call lent refl

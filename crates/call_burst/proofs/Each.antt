@@ -105,15 +105,16 @@ module _ (c₀ buffer ns ss is : List ℕ) (t : ℕ) (o₀ : List ℕ) where
             }
 
     -- none is left
-    pub ended : length ns ≤ i → Receives c₀ buffer ns ss is t o₀ c o (record { rows = rows; n = i; written = f; number = 0 })
+    pub ended : length ns ≤ i → Receives c₀ buffer ns ss is t o₀ c o (record { rows = rows; n = length ns; written = f })
     unfolding receive_each
     ended h =
+        let all : i ≡ length ns = omega (arith, g.some) in
         record {
-          few = omega (arith, g.some, e.few);
-          size = omega (arith, g.some);
-          number = refl;
+          few = e.few;
+          size = refl;
           each =
               g.goal
               ∙ (λ j. joined (take i rows) (take f o) f (receive_each receive_in t c (drop f o) (packets_in (drop at buffer) (drop_of_length-le ns h j) (drop i ss) (drop i is))))
-              ∙ (λ j. record { answers = append-nil (take i rows) j; output = take-append-drop f o j; written = add-zero f j; state = c });
+              ∙ (λ j. record { answers = append-nil (take i rows) j; output = take-append-drop f o j; written = add-zero f j; state = c })
+              ∙ ap (λ (m : ℕ). record { answers = take m rows; output = o; written = f; state = c }) all;
         }

@@ -1,6 +1,8 @@
 -- Names for what the steps of a burst are asked and leave. (RULES 6.9)
-use Rattle.std.specs.Prelude.{◌≡◌, List, [], ℕ, ◌+◌, ◌≤◌, length, take, drop}
+use Rattle.std.specs.Prelude.{◌≡◌, List, [], Result, Ok, Err, IfOk, ℕ, ◌+◌, ◌≤◌, length, take, drop}
 use Rattle.lists.specs.Lists.{sum, written_to}
+use Rattle.wire.specs.declared.refusals.Refusal.{Refusal}
+use Rattle.wire.specs.Refusals.{fault_by}
 use Rattle.rules.specs.declared.Received.{Received}
 use Rattle.rules.specs.declared.Burst.{Burst}
 use Rattle.rules.specs.Settings.{packets_most}
@@ -48,27 +50,25 @@ pub record Enough (c buffer lengths senders interfaces : List ℕ) : Type 0 wher
 pub record Receives (c buffer lengths senders interfaces : List ℕ) (time : ℕ) (o d q : List ℕ) (got : Answers) : Type 0 where
   pub few : got.n ≤ packets_most
   pub size : got.n ≡ length lengths
-  pub number : got.number ≡ 0
   pub each : burst_in c (burst_args buffer lengths senders interfaces time o []) ≡ record { answers = take got.n got.rows; output = q; written = got.written; state = d }
 
 -- ---- the call
 
--- no packet is received, and the call answers m
-pub record AnswersNone (m : ℕ) (got : Answers) : Type 0 where
-  pub size : got.n ≡ 0
-  pub written : got.written ≡ 0
-  pub number : got.number ≡ m
-
 -- a refusal or 0, and how many octets are written
-abbrev pub answer_of : Answers → Burst
-answer_of got = burst_as got.number got.written
+abbrev pub answer_of : Result Answers Refusal → Burst
+answer_of (Ok got) = burst_as 0 got.written
+answer_of (Err r) = burst_as (fault_by r).number 0
+
+-- the packets' answers; a refused call has none
+abbrev pub answers_of : Result Answers Refusal → List Received
+answers_of (Ok got) = take got.n got.rows
+answers_of (Err r) = []
 
 -- the answer, the output as it is left, and the answers at the start of the lent rows
-abbrev pub reply_of : Answers → (output : List ℕ) → (lent : List Received) → Reply
-reply_of got q lent = answered_each (burst_received (answer_of got)) q (written_to (take got.n got.rows) lent)
+abbrev pub reply_of : Result Answers Refusal → (output : List ℕ) → (lent : List Received) → Reply
+reply_of r q lent = answered_each (burst_received (answer_of r)) q (written_to (answers_of r) lent)
 
 -- what is answered decides the call: it fits, and this is the reply for whichever `room` rows are lent
-pub record Settles (c buffer lengths senders interfaces : List ℕ) (time : ℕ) (o : List ℕ) (room : ℕ) (d q : List ℕ) (got : Answers) : Type 0 where
-  pub few : got.n ≤ packets_most
-  pub fits : got.n ≤ room
-  pub call : (lent : List Received) → length lent ≡ room → Promised c (burst (burst_args buffer lengths senders interfaces time o lent)) (reply_of got q lent) d
+pub record Settles (c buffer lengths senders interfaces : List ℕ) (time : ℕ) (o : List ℕ) (room : ℕ) (d q : List ℕ) (r : Result Answers Refusal) : Type 0 where
+  pub fits : IfOk r (λ got. (got.n ≤ packets_most) × (got.n ≤ room))
+  pub call : (lent : List Received) → length lent ≡ room → Promised c (burst (burst_args buffer lengths senders interfaces time o lent)) (reply_of r q lent) d

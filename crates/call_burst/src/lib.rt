@@ -3,36 +3,27 @@
 
 ghost use Rattle.std.specs.Prelude.{◌≡◌, cond, ◌+◌, ◌≤◌, eqb, length};
 ghost use Rattle.table_layout.specs.Facts.{Knows};
-ghost use Rattle.call_burst.specs.Bursts.{AnswersNone, Spaces, One, Enough, Receives, Settles};
+ghost use Rattle.call_burst.specs.Bursts.{Spaces, One, Enough, Receives, Settles};
 
 use call_burst_checks::fits;
 use call_burst_rows::{Answers, ROWS_MOST};
 use call_receive::receive_checked;
 use call_receive_arrival::refused;
 use rules::Received;
-use rules::verdicts::PASSED_ON;
+use rules::verdicts::Verdict;
 use table_check::well_formed;
 use wire::refusal;
-use wire::refusals::{NOT_WELL_FORMED, WRONG_BURST};
-
-// No answers, and the number to answer.
-fn no_answers(number: u64) -> Answers
-    ensures { AnswersNone number result }
-{
-    let rows = [refused(refusal(0)); ROWS_MOST];
-    Answers {
-        rows,
-        n: 0,
-        written: 0,
-        number,
-    }
-}
+use wire::refusals::Refusal;
 
 // How many octets of the output a packet of this length has taken.
 fn taken(number: u64, length: usize) -> usize
     ensures { result ≡ cond (eqb number 26) length 0 }
 {
-    if number == PASSED_ON { length } else { 0 }
+    if number == Verdict::PassedOn as u64 {
+        length
+    } else {
+        0
+    }
 }
 
 // One packet of the buffer, `length` octets from `at` on, received into the output from `from` on.
@@ -77,9 +68,8 @@ fn receive_each(
     let mut rows = [refused(refusal(0)); ROWS_MOST];
     let mut at = 0;
     let mut from = 0;
-    let mut i = 0;
-    while i < lengths.len() {
-        let length = lengths[i] as usize;
+    for (i, length) in lengths.iter().enumerate() {
+        let length = *length as usize;
         let r = receive_one(
             cells,
             octets,
@@ -94,13 +84,11 @@ fn receive_each(
         rows[i] = r;
         from += taken(r.number, length);
         at += length;
-        i += 1;
     }
     Answers {
         rows,
-        n: i,
+        n: lengths.len(),
         written: from as u64,
-        number: 0,
     }
 }
 
@@ -114,14 +102,14 @@ pub fn burst(
     time: u64,
     out: &mut [u8],
     room: usize,
-) -> Answers
+) -> Result<Answers, Refusal>
     ensures { Settles cells.old octets.now lengths.now senders.now interfaces.now time out.old room cells.new out.new result }
 {
     if !well_formed(cells) {
-        return no_answers(NOT_WELL_FORMED);
+        return Err(Refusal::NotWellFormed);
     }
     if !fits(octets.len(), lengths, senders.len(), interfaces.len(), room) {
-        return no_answers(WRONG_BURST);
+        return Err(Refusal::WrongBurst);
     }
-    receive_each(cells, octets, lengths, senders, interfaces, time, out)
+    Ok(receive_each(cells, octets, lengths, senders, interfaces, time, out))
 }

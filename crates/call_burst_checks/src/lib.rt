@@ -16,16 +16,13 @@ fn adds_up(lengths: &[u64], octets: usize) -> bool
     ensures { result ≡ eqb (sum lengths.now) octets }
 {
     let mut rest = octets as u64;
-    let mut i = 0;
-    while i < lengths.len() {
-        let length = lengths[i];
+    for &length in lengths {
         if rest < length {
-            break;
+            return false;
         }
         rest -= length;
-        i += 1;
     }
-    (i == lengths.len()) & (rest == 0)
+    rest == 0
 }
 
 // Whether a burst fits: `octets`, `senders`, `interfaces` and `rows` are how many there are of each.

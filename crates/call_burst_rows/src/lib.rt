@@ -12,14 +12,13 @@ use rules::limits::PACKETS_MOST;
 // As many rows as a burst has packets at the most.
 pub const ROWS_MOST: usize = PACKETS_MOST as usize;
 
-// What a burst answers: the first n rows are those of its packets, `written` octets of the output are written, and `number` is 0 or a refusal, which has
-// no rows.
+// What a burst answers: the first n rows are those of its packets, and `written` octets of the output are written. An array of the most rows and how many
+// there are, since nothing is allocated.
 #[derive(Clone, Copy)]
 pub struct Answers {
     pub rows: [Received; ROWS_MOST],
     pub n: usize,
     pub written: u64,
-    pub number: u64,
 }
 
 // Writes the answers at the start of the caller's rows, in order. Further rows stay as they are.
@@ -27,9 +26,5 @@ pub fn fill_answers(rows: &mut [Received], got: Answers)
     requires { (got.n ≤ packets_most) × (got.n ≤ length rows.old) }
     ensures { rows.new ≡ written_to (take got.n got.rows) rows.old }
 {
-    let mut i = 0;
-    while i < got.n {
-        rows[i] = got.rows[i];
-        i += 1;
-    }
+    rows[..got.n].copy_from_slice(&got.rows[..got.n]);
 }

@@ -30,8 +30,12 @@ use Rattle.table_layout.specs.Calls.{Performed, Promised}
 use Rattle.table_layout.proofs.Encoding.{encode-decode}
 use Rattle.table_changes.proofs.Performing.{not-asked, does, refuses}
 use Rattle.table_originators.specs.Originators.{Stands}
+use Rattle.std.specs.Prelude.{Result, Ok, Err}
+use Rattle.wire.specs.declared.refusals.Refusal.{Refusal}
+use Rattle.wire.specs.declared.refusals.Refusal.TheVariants.{NotWellFormed, ShortOutput}
+use Rattle.wire.specs.Refusals.{fault_by}
 use Rattle.call_list.specs.declared.Links.{Links}
-use Rattle.call_list.specs.Listing.{Listable, Finds, FindsNone, answer_of, reply_of, Settles}
+use Rattle.call_list.specs.Listing.{Listable, Finds, answer_of, rows_found, reply_of, Settles}
 
 -- ---- a record that stands in a well-formed table: the address of each link is in its range
 
@@ -63,28 +67,15 @@ module _ (c : List ℕ) (o i : ℕ) (s : Stands c o i) where
 
 -- ---- the call
 
--- an unknown originator has zero links
-pub none_found : (got : Links) → FindsNone 0 got → Finds [] got
-none_found got f = record { few = let z = f.size in omega arith; size = f.size; rows = ap (λ (k : ℕ). take k got.rows) f.size; number = f.number }
-
-module _ (c : List ℕ) (o room : ℕ) (got : Links) where
+module _ (c : List ℕ) (o room : ℕ) where
   -- refused: no row is written
-  none_settles : (m : ℕ) → FindsNone m got → ((lent : List LinkRow) → length lent ≡ room → Performed c (list o lent) (refusal (list o lent) (numbered m)) c) → Settles c o room got
+  refused : (r : Refusal) → ((lent : List LinkRow) → length lent ≡ room → Performed c (list o lent) (refusal (list o lent) (fault_by r)) c) → Settles c o room (Err r)
   unfolding refusal written_to
-  none_settles m f p =
-      let z = f.size in
-      record {
-        few = omega arith;
-        fits = omega arith;
-        call = λ lent e. (let q = p lent e in record {
-          replies = (λ j. answered_filling (listed (record { number = f.number j; filled = z j })) (written_to (take (z j) got.rows) lent)) ∙ q.replies;
-          leaves = q.leaves;
-        });
-      }
+  refused r p = record { fits = tt; call = p }
 
   -- refusal 1
-  pub not_well_formed : well_formed c ≡ false → FindsNone 1 got → Settles c o room got
-  not_well_formed h f = none_settles 1 f (λ lent e. not-asked c (list o lent) h)
+  pub not_well_formed : well_formed c ≡ false → Settles c o room (Err NotWellFormed)
+  not_well_formed h = refused NotWellFormed (λ lent e. not-asked c (list o lent) h)
 
   module _ (h : well_formed c ≡ true) where
     abbrev rows : List LinkRow
@@ -96,28 +87,27 @@ module _ (c : List ℕ) (o room : ℕ) (got : Links) where
     unfolding step
     goes lent t e = ap (λ (b : Bool). unless (given b 4) (refuse table (list o lent) (decode c)) (fill_rows table (decode c) lent rows)) e
 
-    -- refusal 4
-    pub no_room : (held : Links) → Finds rows held → room < held.n → FindsNone 4 got → Settles c o room got
-    unfolding unless
-    no_room held g l f =
-        let z = g.size in
-        none_settles 4 f (λ lent e. refuses c (list o lent) h h (numbered 4) (goes lent true (lt-ltb (length lent) (length rows) (omega arith))))
+    module _ (got : Links) (g : Finds rows got) where
+      -- refusal 4
+      pub no_room : room < got.n → Settles c o room (Err ShortOutput)
+      unfolding unless
+      no_room l =
+          let z = g.size in
+          refused ShortOutput (λ lent e. refuses c (list o lent) h h (numbered 4) (goes lent true (lt-ltb (length lent) (length rows) (omega arith))))
 
-    -- not refused: the rows found are written
-    pub found_settles : got.n ≤ room → Finds rows got → Settles c o room got
-    unfolding unless fill_rows
-    found_settles l f =
-        let z = f.size in
-        record {
-          few = f.few;
-          fits = l;
-          call = λ lent e. does c (list o lent) h (fill_rows table (decode c) lent rows) (goes lent false (le-ltb (length lent) (length rows) (omega arith))) (reply_of got lent) c
-              (λ j. answered_filling (listed (record { number = f.number j; filled = z j })) (written_to (f.rows j) lent)) (sym (encode-decode c h));
-        }
+      -- not refused: the rows found are written
+      pub found_settles : got.n ≤ room → Settles c o room (Ok got)
+      unfolding unless fill_rows
+      found_settles l =
+          let z = g.size in
+          record {
+            fits = (g.few, l);
+            call = λ lent e. does c (list o lent) h (fill_rows table (decode c) lent rows) (goes lent false (le-ltb (length lent) (length rows) (omega arith))) (reply_of (Ok got) lent) c
+                (λ j. answered_filling (listed (record { number = 0; filled = z j })) (written_to (g.rows j) lent)) (sym (encode-decode c h));
+          }
 
--- what the call promises, once the rows found are written
-pub promised : (c : List ℕ) (o : ℕ) (got : Links) (entry exit : List LinkRow) → Settles c o (length entry) got → exit ≡ written_to (take got.n got.rows) entry
-    → Promised c (list o entry) (answered_filling (listed (answer_of got)) exit) c
-promised c o got entry exit s e =
-    let p = s.call entry refl in
-    record { performed = record { replies = ap (answered_filling (listed (answer_of got))) e ∙ p.replies; leaves = p.leaves }; typed = refl }
+-- what a refused call promises: the lent rows stay as they are
+pub refused_promised : (c : List ℕ) (o : ℕ) (r : Refusal) (lent : List LinkRow) → Settles c o (length lent) (Err r)
+    → Promised c (list o lent) (answered_filling (listed (record { number = (fault_by r).number; filled = 0 })) lent) c
+unfolding written_to
+refused_promised c o r lent s = record { performed = s.call lent refl; typed = refl }

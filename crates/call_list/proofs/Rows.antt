@@ -51,7 +51,7 @@ module _ (W : ℕ) (row : List ℕ) where
 
     -- all of them are written
     pub rows-found : (i : ℕ) → get_or row links_at 0 ≤ i → rows ≡ written_to (take i (rows_in W row)) blank → (κ : Config) → W ≡ κ.settings.window
-        → Finds (link_rows table κ (some (decode_record row).1)) (record { rows = rows; n = get_or row links_at 0; number = 0 })
+        → Finds (link_rows table κ (some (decode_record row).1)) (record { rows = rows; n = get_or row links_at 0 })
     unfolding written_to
     rows-found i l e κ w =
         let same : rows_in W row ≡ link_rows table κ (some (decode_record row).1) = ap (λ (k : ℕ). rows_in k row) w ∙ sym (by_rules κ row) in
@@ -60,5 +60,4 @@ module _ (W : ℕ) (row : List ℕ) where
           few = h.few;
           size = sym length-rows ∙ ap length same;
           rows = ap (take (get_or row links_at 0)) (e ∙ (rw whole)) ∙ take_at (rows_in W row) (drop (length (rows_in W row)) blank) (get_or row links_at 0) length-rows ∙ same;
-          number = refl;
         }

@@ -1,6 +1,8 @@
 -- What the list call finds, and what it answers and writes.
-use Rattle.std.specs.Prelude.{◌≡◌, List, cond, ℕ, ◌≤◌, ◌<◌, eqb, length, take, get_or}
+use Rattle.std.specs.Prelude.{◌≡◌, List, [], Result, Ok, Err, IfOk, cond, ℕ, ◌≤◌, ◌<◌, eqb, length, take, get_or}
 use Rattle.lists.specs.Lists.{written_to}
+use Rattle.wire.specs.declared.refusals.Refusal.{Refusal}
+use Rattle.wire.specs.Refusals.{fault_by}
 use Rattle.window.specs.Window.{count}
 use Rattle.rules.specs.declared.LinkRow.{LinkRow}
 use Rattle.rules.specs.declared.Listed.{Listed}
@@ -29,30 +31,29 @@ pub record Listable (row : List ℕ) : Type 0 where
 
 -- ---- what is found
 
--- the rows found are rs, and the call is not refused
+-- the rows found are rs
 pub record Finds (rs : List LinkRow) (got : Links) : Type 0 where
   pub few : got.n ≤ link_most
   pub size : got.n ≡ length rs
   pub rows : take got.n got.rows ≡ rs
-  pub number : got.number ≡ 0
-
--- nothing is found, and the call answers m
-pub record FindsNone (m : ℕ) (got : Links) : Type 0 where
-  pub size : got.n ≡ 0
-  pub number : got.number ≡ m
 
 -- ---- the call
 
 -- a refusal or 0, and how many rows are filled
-abbrev pub answer_of : Links → Listed
-answer_of got = record { number = got.number; filled = got.n }
+abbrev pub answer_of : Result Links Refusal → Listed
+answer_of (Ok got) = record { number = 0; filled = got.n }
+answer_of (Err r) = record { number = (fault_by r).number; filled = 0 }
+
+-- the rows found; a refused call has none
+abbrev pub rows_found : Result Links Refusal → List LinkRow
+rows_found (Ok got) = take got.n got.rows
+rows_found (Err r) = []
 
 -- the answer, and the rows found at the start of the lent ones
-abbrev pub reply_of : Links → (lent : List LinkRow) → Reply
-reply_of got lent = answered_filling (listed (answer_of got)) (written_to (take got.n got.rows) lent)
+abbrev pub reply_of : Result Links Refusal → (lent : List LinkRow) → Reply
+reply_of r lent = answered_filling (listed (answer_of r)) (written_to (rows_found r) lent)
 
 -- what is found in the cells c decides the call on originator o: it fits, and this is the reply for whichever `room` rows are lent, the cells as they were
-pub record Settles (c : List ℕ) (o room : ℕ) (got : Links) : Type 0 where
-  pub few : got.n ≤ link_most
-  pub fits : got.n ≤ room
-  pub call : (lent : List LinkRow) → length lent ≡ room → Performed c (list o lent) (reply_of got lent) c
+pub record Settles (c : List ℕ) (o room : ℕ) (r : Result Links Refusal) : Type 0 where
+  pub fits : IfOk r (λ got. (got.n ≤ link_most) × (got.n ≤ room))
+  pub call : (lent : List LinkRow) → length lent ≡ room → Performed c (list o lent) (reply_of r lent) c

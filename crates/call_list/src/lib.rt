@@ -1,7 +1,7 @@
 // The list call: the rows of an originator's links are looked up, then written to the caller's.
 #![tactic(auto)]
 
-ghost use Rattle.std.specs.Prelude.{◌≡◌, cond, ◌≤◌, ◌<◌, length, take};
+ghost use Rattle.std.specs.Prelude.{◌≡◌, [], cond, ◌≤◌, ◌<◌, length, take};
 ghost use Rattle.std.proofs.Math.Option.{some};
 ghost use Rattle.lists.specs.Lists.{written_to};
 ghost use Rattle.lists.specs.Keyed.{lookup};
@@ -13,9 +13,8 @@ ghost use Rattle.rules.specs.Table.{table};
 ghost use Rattle.table_record.specs.Record.{decode_record};
 ghost use Rattle.table_layout.specs.Cells.{decode};
 ghost use Rattle.table_layout.specs.Facts.{Knows};
-ghost use Rattle.call_list.specs.Listing.{zero_row, row_of, Listable, Finds, FindsNone, Settles};
+ghost use Rattle.call_list.specs.Listing.{zero_row, row_of, Listable, Finds, Settles};
 
-use cells::Found;
 use rules::LinkRow;
 use rules::limits::{INTERFACES_MOST, LINKS_MOST};
 use table_check::well_formed;
@@ -23,45 +22,31 @@ use table_layout::WINDOW;
 use table_originators::{find_record, record_at};
 use table_record::{BEST, LINKS, key_at, links_part, marks_at};
 use window::{Marks, count};
-use wire::refusals::{NOT_WELL_FORMED, SHORT_OUTPUT};
+use wire::refusals::Refusal;
 
 // As many rows as a record has room for links.
 const ROWS_MOST: usize = LINKS_MOST as usize;
 
-// What is looked up: the first n rows are those of the links held, and `number` is 0 or a refusal, which has no rows.
+// What is looked up: the first n rows are those of the links held. An array of the most rows and how many there are, since nothing is allocated.
 #[derive(Clone, Copy)]
 pub struct Links {
     pub rows: [LinkRow; ROWS_MOST],
     pub n: usize,
-    pub number: u64,
 }
 
 // A row of zeros.
 fn zero_row() -> LinkRow
     ensures { result ≡ zero_row }
 {
-    LinkRow {
-        neighbour: 0,
-        interface: 0,
-        count: 0,
-        window: 0,
-        best: 0,
-    }
+    LinkRow::default()
 }
 
-// No rows, and the number to answer.
-fn no_links(number: u64) -> Links
-    ensures { FindsNone number result }
+// No rows.
+fn no_links() -> Links
+    ensures { Finds [] result }
 {
     let rows = [zero_row(); ROWS_MOST];
-    Links { rows, n: 0, number }
-}
-
-// 1 for true, 0 for false.
-fn bit(b: bool) -> u32
-    ensures { result ≡ cond b 1 0 }
-{
-    if b { 1 } else { 0 }
+    Links { rows, n: 0 }
 }
 
 // The row of a link.
@@ -74,7 +59,7 @@ fn row_of(pair: u64, marks: Marks, window: u32, best: u64) -> LinkRow
         interface: (pair % INTERFACES_MOST) as u32,
         count: count(marks),
         window,
-        best: bit(best == pair),
+        best: u32::from(best == pair),
     }
 }
 
@@ -87,12 +72,10 @@ fn rows_of(row: &[u64], window: u32) -> Links
     let best = row[BEST];
     let n = row[LINKS] as usize;
     let mut rows = [zero_row(); ROWS_MOST];
-    let mut i = 0;
-    while i < n {
+    for i in 0..n {
         rows[i] = row_of(key_at(part, i), marks_at(part, i), window, best);
-        i += 1;
     }
-    Links { rows, n, number: 0 }
+    Links { rows, n }
 }
 
 // The rows of an originator's links, in a table that is well-formed; none where no record is held.
@@ -100,25 +83,24 @@ fn held_links(cells: &[u64], originator: u32) -> Links
     requires { Knows cells.now }
     ensures { Finds (link_rows table (decode cells.now).config (lookup originator (decode cells.now).records)) result }
 {
-    let f = find_record(cells, originator).found;
-    match f {
-        Found::At(i) => rows_of(record_at(cells, i), cells[WINDOW] as u32),
-        Found::Place(_) => no_links(0),
+    match find_record(cells, originator).found {
+        Ok(i) => rows_of(record_at(cells, i), cells[WINDOW] as u32),
+        Err(_) => no_links(),
     }
 }
 
 // Looks an originator's links up for a caller that lends `room` rows, or refuses.
-pub fn links_of(cells: &[u64], originator: u32, room: usize) -> Links
+pub fn links_of(cells: &[u64], originator: u32, room: usize) -> Result<Links, Refusal>
     ensures { Settles cells.now originator room result }
 {
     if !well_formed(cells) {
-        return no_links(NOT_WELL_FORMED);
+        return Err(Refusal::NotWellFormed);
     }
     let got = held_links(cells, originator);
     if room < got.n {
-        return no_links(SHORT_OUTPUT);
+        return Err(Refusal::ShortOutput);
     }
-    got
+    Ok(got)
 }
 
 // Writes the rows found at the start of the caller's, in order. Further rows stay as they are.
@@ -126,9 +108,5 @@ pub fn fill_rows(rows: &mut [LinkRow], got: Links)
     requires { (got.n ≤ link_most) × (got.n ≤ length rows.old) }
     ensures { rows.new ≡ written_to (take got.n got.rows) rows.old }
 {
-    let mut i = 0;
-    while i < got.n {
-        rows[i] = got.rows[i];
-        i += 1;
-    }
+    rows[..got.n].copy_from_slice(&got.rows[..got.n]);
 }

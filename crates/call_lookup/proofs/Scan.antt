@@ -8,19 +8,12 @@ use native.Mathlib.Omega.{arith}
 use lib.Dec.{leb, eqb}
 use lib.ListN.{length, drop, get_or, drop_of_length-le}
 use lib.Seq.{drop-cons}
-use borrow.Author.Tests.{ltb-true, leb-true, le-leb, lt-leb}
-use Rattle.lists.specs.Lists.{and}
-use Rattle.lists.proofs.Tests.{and_at, both}
-use Rattle.cells.specs.Area.{fit}
-use Rattle.cells.proofs.Areas.{length-fit, get_or_fit}
-use Rattle.cells.proofs.Bools.{all-place}
-use Rattle.wire.specs.Layout.{mask_most}
+use borrow.Author.Tests.{le-leb, lt-leb}
+use Rattle.lists.proofs.Tests.{both}
 use Rattle.wire.specs.Entries.{network_of, mask_of}
-use Rattle.rules.specs.Settings.{addresses}
 use Rattle.rules.specs.Lookup.{leading, covers}
-use Rattle.rules.specs.WellFormed.{entry_tests, entries_ok}
 use Rattle.call_lookup.specs.declared.Best.{Best}
-use Rattle.call_lookup.specs.Scan.{IsEntry, seen_one, seen_by, seen_all}
+use Rattle.call_lookup.specs.Scan.{seen_one, seen_by, seen_all}
 
 -- ---- one entry
 
@@ -49,23 +42,6 @@ module _ (a o e : ℕ) (b : Best) {mask : ℕ} (m : mask ≡ mask_of e) where
     better l h =
         ap₂ (λ (x y : ℕ). record { least = x + 1; originator = o; network = y }) m n
         ∙ sym (ap (λ (t : Bool). cond t (taken o e) b) (both (le-leb b.least (mask_of e) (omega arith)) (covers_is ∙ h)))
-
--- ---- an originator's entries, n cells of a part
-
-module _ (part : List ℕ) (n : ℕ) where
-  pub is_entry : entries_ok (fit n part) ≡ true → (i : ℕ) → i < n → IsEntry (get_or part i 0)
-  is_entry h i l =
-      let s = length-fit n part in
-      let t : and (entry_tests (get_or part i 0)) ≡ true = ap (λ (e : ℕ). and (entry_tests e)) (sym (get_or_fit n part i l)) ∙ all-place (λ e. and (entry_tests e)) (fit n part) i 0 h (omega arith) in
-      record { network = ltb-true (network_of (get_or part i 0)) addresses (and_at (entry_tests (get_or part i 0)) t 0); mask = leb-true (mask_of (get_or part i 0)) mask_most (and_at (entry_tests (get_or part i 0)) t 1) }
-
-  pub next-entry : (a o i : ℕ) (b : Best) → i < n → seen_by a o (drop i (fit n part)) b ≡ seen_by a o (drop (i + 1) (fit n part)) (seen_one a o (get_or part i 0) b)
-  next-entry a o i b l =
-      let s = length-fit n part in
-      ap (λ (es : List ℕ). seen_by a o es b) (drop-cons (fit n part) i 0 (omega arith) ∙ ap₂ (λ (e j : ℕ). e ∷ drop j (fit n part)) (get_or_fit n part i l) (sym (add-one i)))
-
-  pub no_entry : (a o i : ℕ) (b : Best) → n ≤ i → seen_by a o (drop i (fit n part)) b ≡ b
-  no_entry a o i b l = let s : length (fit n part) ≤ i = omega (arith, length-fit n part) in ap (λ (es : List ℕ). seen_by a o es b) (drop_of_length-le (fit n part) s)
 
 -- ---- the originators
 

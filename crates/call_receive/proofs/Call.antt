@@ -8,20 +8,20 @@ use native.Mathlib.Omega.{arith}
 use borrow.Author.Tests.{ltb-true, ltb-false, not-false}
 use lib.Dec.{ltb}
 use lib.ListN.{length, get_or}
-use Rattle.lists.proofs.Tests.{both, and_at}
+use Rattle.lists.proofs.Tests.{and_at}
 use Rattle.wire.specs.declared.Fault.{Fault}
 use Rattle.wire.specs.Layout.{header_size, packet_most}
 use Rattle.wire.specs.Check as check
-use Rattle.wire.specs.Check.{fault_of, packet_fault, packet_faults}
+use Rattle.wire.specs.Check.{packet_fault, packet_faults}
 use Rattle.rules.specs.declared.Received.{Received}
-use Rattle.rules.specs.Settings.{is_in_use, is_address}
+use Rattle.rules.specs.Settings.{is_address}
 use Rattle.rules.specs.Calls.{ReceiveArgs, Reply, receive, received, answered_writing, refusal}
 use Rattle.rules.specs.Rules.{step, receive_fault, receive_faults}
 use Rattle.rules.specs.Table.{table}
 use Rattle.rules.specs.WellFormed as R
 use Rattle.rules.proofs.WellFormed.{well_formed-step}
 use Rattle.rules.proofs.Links.{neighbour_of_lem}
-use Rattle.rules.proofs.Faults.{none-at, not-given, numbered, first-numbered, given-numbered, packet-numbered, no_number}
+use Rattle.rules.proofs.Faults.{none-at, not-given}
 use Rattle.table_layout.specs.Layout.{used_at, own_at, broadcast_at}
 use Rattle.table_layout.specs.Interfaces.{encode_interface}
 use Rattle.table_layout.specs.Cells.{decode, well_formed}
@@ -58,18 +58,6 @@ module _ (c : List ℕ) (a : ReceiveArgs) where
     -- what the call leaves is a well-formed table's
     pub left_known : R.typed (receive a) ≡ true → (x : Reply) (d : List ℕ) → Performed c (receive a) x d → Knows d
     left_known t x d w = subst Knows (sym w.leaves) (knows _ (stays c (receive a) t (well_formed_lem c k)))
-
--- the refusals' number is 0 exactly where there is none
-pub by_number : (c : List ℕ) (a : ReceiveArgs) → (fault_of (receive_fault (decode c).config (decode c).time a)).number ≡ 0 → receive_fault (decode c).config (decode c).time a ≡ none
-unfolding receive_fault
-by_number c a e = no_number (receive_fault (decode c).config (decode c).time a) all-numbered e
-  where
-    all-numbered : numbered (receive_fault (decode c).config (decode c).time a) ≡ true
-    all-numbered =
-        first-numbered (receive_faults (decode c).config (decode c).time a)
-        (both (given-numbered (not (is_in_use (decode c).config a.interface)) 2 refl)
-        (both (given-numbered (ltb a.time (decode c).time) 3 refl)
-        (both (given-numbered (ltb (length a.output) (length a.packet)) 4 refl) (both (packet-numbered (decode c).config.settings.version a.packet) refl))))
 
 -- what no refusal tells
 module _ (c : List ℕ) (a : ReceiveArgs) (n : receive_fault (decode c).config (decode c).time a ≡ none) where

@@ -14,11 +14,10 @@ use call_receive_echo::own_message;
 use call_receive_relay::decide;
 use packet_codec::output::is_unidirectional;
 use rules::Received;
-use rules::verdicts::{OWN_BROADCAST, OWN_SENDER, UNIDIRECTIONAL};
+use rules::verdicts::Verdict;
 use table_check::well_formed;
 use table_layout::{BROADCAST, OWN};
-use wire::refusal;
-use wire::refusals::NOT_WELL_FORMED;
+use wire::refusals::Refusal;
 
 // A packet that none of the refusals 2 to 8 turns away.
 fn judge(cells: &mut [u64], packet: &[u8], out: &mut [u8], m: Arrival) -> Received
@@ -26,16 +25,26 @@ fn judge(cells: &mut [u64], packet: &[u8], out: &mut [u8], m: Arrival) -> Receiv
     ensures { Leaves cells.new out.new result (after cells.old packet.now out.old m) }
 {
     if is_listed(cells, OWN, m.sender) {
-        return verdict(cells, OWN_SENDER, m.ogm.time, m.originator);
+        return verdict(cells, Verdict::OwnSender as u64, m.ogm.time, m.originator);
     }
     if is_listed(cells, BROADCAST, m.sender) {
-        return verdict(cells, OWN_BROADCAST, m.ogm.time, m.originator);
+        return verdict(
+            cells,
+            Verdict::OwnBroadcast as u64,
+            m.ogm.time,
+            m.originator,
+        );
     }
     if is_listed(cells, OWN, m.originator) {
         return own_message(cells, m);
     }
     if is_unidirectional(m.flags) {
-        return verdict(cells, UNIDIRECTIONAL, m.ogm.time, m.originator);
+        return verdict(
+            cells,
+            Verdict::Unidirectional as u64,
+            m.ogm.time,
+            m.originator,
+        );
     }
     decide(cells, packet, out, m)
 }
@@ -52,9 +61,8 @@ pub fn receive_checked(
     requires { Knows cells.old }
     ensures { Performed cells.old (C.receive (args_of packet.now sender interface time out.old)) (C.answered_writing (C.received result) out.new) cells.new × Knows cells.new }
 {
-    let fault = receive_fault(cells, packet, interface, time, out.len());
-    if fault.number != 0 {
-        return refused(fault);
+    if let Err(refusal) = receive_fault(cells, packet, interface, time, out.len()) {
+        return refused(refusal.into());
     }
     let m = read_arrival(packet, sender, interface, time);
     judge(cells, packet, out, m)
@@ -72,7 +80,7 @@ pub fn receive(
     ensures { Performed cells.old (C.receive (args_of packet.now sender interface time out.old)) (C.answered_writing (C.received result) out.new) cells.new }
 {
     if !well_formed(cells) {
-        return refused(refusal(NOT_WELL_FORMED));
+        return refused(Refusal::NotWellFormed.into());
     }
     receive_checked(cells, packet, sender, interface, time, out)
 }

@@ -12,7 +12,7 @@ ghost use Rattle.call_receive_arrival.specs.Receiving.{refused_by, verdict_of, E
 use call_best::{no_route, route_to};
 use packet_codec::output::{flags_elsewhere, flags_here, pass_on};
 use rules::limits::TTL_LEAST;
-use rules::verdicts::{KEPT, PASSED_ON, STALE};
+use rules::verdicts::Verdict;
 use rules::{Ogm, Received, Route};
 use table_layout::TIME;
 use wire::Fault;
@@ -39,14 +39,14 @@ fn received_as(number: u64, place: u64, flags: u8, route: Route) -> Received
     }
 }
 
-// The answer to a refused packet.
+// The answer to a refused packet. It takes any number and place, which a `Refusal` would not.
 pub fn refused(fault: Fault) -> Received
     ensures { result ≡ refused_by fault }
 {
     received_as(fault.number, fault.place, 0, no_route())
 }
 
-// Ends with a verdict that writes nothing: the time is set, and the route is the originator's in the cells as the call leaves them.
+// Ends with a verdict that writes nothing, given as its number, whichever it is: the time is set, and the route is the originator's in the cells as the call leaves them.
 pub fn verdict(cells: &mut [u64], number: u64, time: u64, originator: u32) -> Received
     requires { Ends cells.old time }
     ensures { (e : Ends cells.old time) → (result ≡ verdict_of e.state number originator) × (cells.new ≡ encode (R.with_time table e.state time)) }
@@ -61,7 +61,7 @@ pub fn end_stale(cells: &mut [u64], at: u64, route: Route) -> Received
     ensures { EndsStale cells.old at route cells.new result }
 {
     cells[TIME] = at;
-    received_as(STALE, 0, 0, route)
+    received_as(Verdict::Stale as u64, 0, 0, route)
 }
 
 // Ends with 26 or 25: the time is set. `best` says that the link is bidirectional and best, and the message fresh.
@@ -80,8 +80,8 @@ pub fn conclude(
     cells[TIME] = m.ogm.time;
     let direct = m.sender == m.originator;
     if !((TTL_LEAST <= m.ogm.ttl) & (direct | best)) {
-        return received_as(KEPT, 0, 0, route);
+        return received_as(Verdict::Kept as u64, 0, 0, route);
     }
     pass_on(packet, out, flags_here(direct, bidirectional, m.flags));
-    received_as(PASSED_ON, 0, flags_elsewhere(m.flags), route)
+    received_as(Verdict::PassedOn as u64, 0, flags_elsewhere(m.flags), route)
 }

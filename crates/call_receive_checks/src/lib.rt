@@ -4,7 +4,7 @@
 ghost use Rattle.std.specs.Prelude.{◌≡◌, true, List, map, ℕ, ◌≤◌, ◌<◌, length};
 ghost use Rattle.lists.specs.Lists.{elem};
 ghost use Rattle.wire.specs.Layout.{header_size};
-ghost use Rattle.wire.specs.Check.{fault_of};
+ghost use Rattle.wire.specs.Refusals.{refusal_of};
 ghost use Rattle.rules.specs.declared.Interface.{Interface};
 ghost use Rattle.rules.specs.Settings.{interface_most, interface_cells};
 ghost use Rattle.rules.specs.Calls as C;
@@ -20,8 +20,7 @@ use packet_codec::message::read;
 use rules::Ogm;
 use rules::limits::INTERFACES_MOST;
 use table_layout::{OWN_0, OWN_1, OWN_2, OWN_3, TIME, USED, VERSION};
-use wire::refusals::{NOT_IN_USE, SHORT_OUTPUT, TIME_BEFORE};
-use wire::{Fault, refusal};
+use wire::refusals::Refusal;
 
 // The message that a packet begins with, as it came from a sender.
 pub fn read_arrival(packet: &[u8], sender: u32, interface: u64, time: u64) -> Arrival
@@ -45,18 +44,24 @@ pub fn read_arrival(packet: &[u8], sender: u32, interface: u64, time: u64) -> Ar
 }
 
 // What is refused before the packet is judged, with an output of `room` octets.
-pub fn receive_fault(cells: &[u64], packet: &[u8], interface: u64, time: u64, room: usize) -> Fault
+pub fn receive_fault(
+    cells: &[u64],
+    packet: &[u8],
+    interface: u64,
+    time: u64,
+    room: usize,
+) -> Result<(), Refusal>
     requires { Knows cells.now }
-    ensures { (a : ℕ) (o : List ℕ) → length o ≡ room → result ≡ fault_of (R.receive_fault (decode cells.now).config (decode cells.now).time (args_of packet.now a interface time o)) }
+    ensures { (a : ℕ) (o : List ℕ) → length o ≡ room → refusal_of result ≡ R.receive_fault (decode cells.now).config (decode cells.now).time (args_of packet.now a interface time o) }
 {
     if cells[USED] <= interface {
-        return refusal(NOT_IN_USE);
+        return Err(Refusal::NotInUse);
     }
     if time < cells[TIME] {
-        return refusal(TIME_BEFORE);
+        return Err(Refusal::TimeBefore);
     }
     if room < packet.len() {
-        return refusal(SHORT_OUTPUT);
+        return Err(Refusal::ShortOutput);
     }
     packet_fault(packet, cells[VERSION])
 }

@@ -13,13 +13,12 @@ ghost use Rattle.call_receive_arrival.specs.Receiving.{call_of, Leaves, Fits, Ta
 use call_receive_arrival::{Arrival, refused, verdict};
 use packet_codec::output::is_direct;
 use rules::Received;
-use rules::verdicts::{ECHO, OWN_ORIGINATOR};
+use rules::verdicts::Verdict;
 use table_layout::{
     INTERFACE, INTERFACES_FROM, LAST, NEIGHBOURS_FROM, OWN, RECORDS_FROM, ROWS, SENT,
 };
-use table_neighbours::{Echo, record_echo};
-use wire::refusal;
-use wire::refusals::NEIGHBOURS_FULL;
+use table_neighbours::record_echo;
+use wire::refusals::Refusal;
 
 // Whether a message of an own originator is the echo of the receiving interface's last packet, from next to it.
 fn is_echo(cells: &[u64], m: Arrival) -> bool
@@ -38,19 +37,12 @@ fn take_echo(cells: &mut [u64], m: Arrival) -> Received
     ensures { (p o : List ℕ) → Taken cells.old p o m → Leaves cells.new o result (R.take_echo table (decode cells.old) (call_of p o m) (header p)) }
 {
     let n = cells[ROWS] as usize;
-    let e = record_echo(
-        &mut cells[NEIGHBOURS_FROM..RECORDS_FROM],
-        n,
-        m.ogm.link,
-        m.ogm.sequence as u64,
-    );
-    match e {
-        Echo::Full => refused(refusal(NEIGHBOURS_FULL)),
-        Echo::Rows(rows) => {
-            cells[ROWS] = rows as u64;
-            verdict(cells, ECHO, m.ogm.time, m.originator)
-        }
-    }
+    let rows = &mut cells[NEIGHBOURS_FROM..RECORDS_FROM];
+    let Some(held) = record_echo(rows, n, m.ogm.link, m.ogm.sequence as u64) else {
+        return refused(Refusal::NeighboursFull.into());
+    };
+    cells[ROWS] = held as u64;
+    verdict(cells, Verdict::Echo as u64, m.ogm.time, m.originator)
 }
 
 // A message whose originator is an own address.
@@ -59,7 +51,12 @@ pub fn own_message(cells: &mut [u64], m: Arrival) -> Received
     ensures { (p o : List ℕ) → Taken cells.old p o m → Leaves cells.new o result (own_message (decode cells.old) (call_of p o m) (header p)) }
 {
     if !is_echo(cells, m) {
-        return verdict(cells, OWN_ORIGINATOR, m.ogm.time, m.originator);
+        return verdict(
+            cells,
+            Verdict::OwnOriginator as u64,
+            m.ogm.time,
+            m.originator,
+        );
     }
     take_echo(cells, m)
 }

@@ -27,6 +27,9 @@ use Rattle.rules.specs.Table.{TableRecord, TableState, first_record, next_record
 use Rattle.table_layout.specs.Layout.{time_at, capacity_at, records_at}
 use Rattle.table_layout.specs.Cells.{encode, decode}
 use Rattle.hear_message.specs.declared.Answer.{Answer}
+use Rattle.std.specs.Prelude.{Result, Ok, Err}
+use Rattle.wire.specs.declared.refusals.Refusal.{Refusal}
+use Rattle.wire.specs.Refusals.{fault_by}
 use Rattle.hear_message.specs.declared.Heard.{Heard}
 use Rattle.hear_message.specs.declared.Heard.TheVariants as H
 use Rattle.count_in_record.specs.Counting.{counted_fault}
@@ -145,7 +148,7 @@ module _ {c p o : List ℕ} {m : Arrival} {b : Bool} (w : Decides c p o m b) whe
 
   -- ---- of an originator whose record stands at place i, which is told of it
 
-  module _ {i : ℕ} (at : Stands c m.originator i) {d : List ℕ} {g : Heard} (h : HeardAt c d m.originator i said b g) where
+  module _ {i : ℕ} (at : Stands c m.originator i) {d : List ℕ} {g : Result Heard Refusal} (h : HeardAt c d m.originator i said b g) where
     abbrev x : TableRecord
     x = standing_at c i
 
@@ -168,21 +171,21 @@ module _ {c p o : List ℕ} {m : Arrival} {b : Bool} (w : Decides c p o m b) whe
     by_standing = by_record (some x) at.found
 
     -- what becomes of it, and the cells, by whether the next record takes its place
-    answers : {v : Heard} → g ≡ v → Answers s.config said b x v
+    answers : {v : Result Heard Refusal} → g ≡ v → Answers s.config said b x v
     answers e = subst (Answers s.config said b x) e h.answers
 
     left : {t : Bool} → is_taken s.config said b x ≡ t → d ≡ cond t (encode (with_records (put m.originator (next said) s.records) s)) c
     left e = h.cells ∙ ap (λ (t : Bool). cond t (encode (with_records (put m.originator (next said) s.records) s)) c) e
 
-    pub again-full : {v : Fault} → g ≡ H.Refused v → after c p o m ≡ refuse table (receive a) s v
+    pub again-full : {v : Refusal} → g ≡ Err v → after c p o m ≡ refuse table (receive a) s (fault_by v)
     again-full e =
         let l = answers e in
         by_standing ∙ way_full s a (header p) x b (sym counted_is ∙ l.0) (ap (λ (n : Message). counted_fault s.config (next n)) (sym (message_is f)) ∙ l.1)
 
-    pub again-same : {v : Fault} → g ≡ H.Refused v → d ≡ c
+    pub again-same : {v : Refusal} → g ≡ Err v → d ≡ c
     again-same e = let l = answers e in left (λ j. l.0 j && maybe (l.1 j) true (λ v. false))
 
-    pub again-counted : {v : Answer} → g ≡ H.Counted v → {e q : List ℕ} {r : Received} → Concluded d p o m true (v.best && v.fresh) v.route e q r → Leaves e q r (after c p o m)
+    pub again-counted : {v : Answer} → g ≡ Ok (H.Counted v) → {e q : List ℕ} {r : Received} → Concluded d p o m true (v.best && v.fresh) v.route e q r → Leaves e q r (after c p o m)
     unfolding fresh
     again-counted {v} eg k =
         let l = answers eg in
@@ -196,7 +199,7 @@ module _ {c p o : List ℕ} {m : Arrival} {b : Bool} (w : Decides c p o m b) whe
         ∙ ap (λ (t : Bool). concludes (holding s (header p) y) a (header p) t fresh (some y)) by)
         (held next (left l.0)) (λ j. best_by next l.1.best j && (l.1.fresh ∙ fresh_is) j) (route_by_lem next l.1.route) k
 
-    pub again_kept : {v : Answer} → g ≡ H.Uncounted v → {e q : List ℕ} {r : Received} → Concluded d p o m b (b && (v.best && v.fresh)) v.route e q r → Leaves e q r (after c p o m)
+    pub again_kept : {v : Answer} → g ≡ Ok (H.Uncounted v) → {e q : List ℕ} {r : Received} → Concluded d p o m b (b && (v.best && v.fresh)) v.route e q r → Leaves e q r (after c p o m)
     unfolding fresh
     again_kept {v} eg k =
         let l = answers eg in

@@ -13,7 +13,6 @@ ghost use Rattle.call_receive_arrival.specs.Receiving.{after, Leaves, Taken, Rul
 
 use call_best::{no_route, route_at};
 use call_receive_arrival::{Arrival, conclude, end_stale, refused};
-use cells::Found;
 use count_entries::too_many;
 use hear_message::Heard;
 use rules::Received;
@@ -21,8 +20,8 @@ use table_layout::{CAPACITY, NEIGHBOURS_FROM, RECORDS, RECORDS_FROM, ROWS};
 use table_neighbours::has_row;
 use table_originators::{find_record, hear_at, make_record, position_at};
 use window::{Position, is_stale};
-use wire::refusals::{ENTRIES_FULL, ORIGINATORS_FULL};
-use wire::{HEADER_SIZE, refusal};
+use wire::HEADER_SIZE;
+use wire::refusals::Refusal;
 
 // The HNA octets of a packet.
 fn hna_of(packet: &[u8]) -> &[u8]
@@ -60,11 +59,11 @@ fn first_heard(
         return conclude(cells, packet, out, m, false, false, no_route());
     }
     if cells[CAPACITY] <= cells[RECORDS] {
-        return refused(refusal(ORIGINATORS_FULL));
+        return refused(Refusal::OriginatorsFull.into());
     }
     let hna = hna_of(packet);
     if too_many(hna) {
-        return refused(refusal(ENTRIES_FULL));
+        return refused(Refusal::EntriesFull.into());
     }
     let ogm = m.ogm;
     let route = make_record(cells, i, m.originator, ogm, hna);
@@ -85,15 +84,14 @@ fn heard_timely(
     ensures { Leaves cells.new out.new result (after cells.old packet.now out.old m) }
 {
     let ogm = m.ogm;
-    let heard = hear_at(cells, i, ogm, hna_of(packet), bidirectional, position);
-    match heard {
-        Heard::Refused(f) => refused(f),
-        Heard::Counted(a) => {
+    match hear_at(cells, i, ogm, hna_of(packet), bidirectional, position) {
+        Err(refusal) => refused(refusal.into()),
+        Ok(Heard::Counted(a)) => {
             let best = a.best & a.fresh;
             let route = a.route;
             conclude(cells, packet, out, m, true, best, route)
         }
-        Heard::Uncounted(a) => {
+        Ok(Heard::Uncounted(a)) => {
             let best = bidirectional & (a.best & a.fresh);
             let route = a.route;
             conclude(cells, packet, out, m, bidirectional, best, route)
@@ -120,10 +118,9 @@ pub fn decide(cells: &mut [u64], packet: &[u8], out: &mut [u8], m: Arrival) -> R
     requires { Taken cells.old packet.now out.old m × Ruled cells.old packet.now out.old m foreign }
     ensures { Leaves cells.new out.new result (after cells.old packet.now out.old m) }
 {
-    let f = find_record(cells, m.originator).found;
-    match f {
-        Found::At(i) => heard_again(cells, packet, out, m, i),
-        Found::Place(i) => {
+    match find_record(cells, m.originator).found {
+        Ok(i) => heard_again(cells, packet, out, m, i),
+        Err(i) => {
             let bidirectional = is_bidirectional(cells, m.ogm.link);
             first_heard(cells, packet, out, m, i, bidirectional)
         }

@@ -1,19 +1,19 @@
 -- The pass over the records, and what it leaves of the table. Assumes nothing.
 use mathlib.Core.Path.{◌≡◌, refl, sym, ap, ◌∙◌, subst}
-use mathlib.Core.Bool.{Bool, true, false, not}
-use mathlib.Core.List.{List}
-use Prim.Native.Nat.{ℕ, ◌+◌, ◌-◌, ◌*◌, ◌≤◌, ◌<◌}
+use mathlib.Core.Bool.{Bool, not}
+use mathlib.Core.List.{List, []}
+use Prim.Native.Nat.{ℕ, ◌-◌, ◌*◌, ◌≤◌}
 use native.Mathlib.Omega.{arith}
 use borrow.Author.Tests.{leb-true}
-use borrow.Rule.Slice.PartMut.{put_mid}
 use lib.Dec.{leb, ltb}
-use lib.ListN.{length, take, drop, get_or}
+use lib.ListN.{length, get_or}
 use Rattle.lists.specs.Lists.{keep}
 use Rattle.lists.proofs.Lists.{keep-length}
-use Rattle.cells.specs.Area.{zeros, written}
+use Rattle.cells.specs.Area.{rows_of}
 use Rattle.cells.proofs.Areas.{length-area}
 use Rattle.cells.proofs.Trips.{length-decoded}
-use Rattle.cells.proofs.Compact.{Turn, Pass, pass_start, pass_turn, pass_dropped, pass_moved, pass_along, pass_done, pass_left, pass_size}
+use Rattle.cells_moves.specs.Keeping.{IsRow, kept_rows}
+use Rattle.cells_moves.proofs.Keeping.{within_area, row_encodes, kept_length, kept_area}
 use Rattle.rules.specs.Settings.{record_cells}
 use Rattle.rules.specs.Table.{TableRecord}
 use Rattle.table_record.specs.Record.{time_at, encode_record, decode_record}
@@ -29,69 +29,41 @@ pub length-records : (n : ℕ) (c : List ℕ) → length (records_of n c) ≡ n
 length-records n c = length-decoded decode_record record_cells n c
 
 module _ (n t p : ℕ) (before : List ℕ) (h : RecordsHeld n t before) where
-  seen : ℕ × TableRecord → Bool
-  seen e = leb e.1.time t
+  few : length (records_of n before) ≤ h.capacity
+  few = omega (arith, length-records n before, h.room)
 
-  -- the zeros after the records
-  abbrev unused : List ℕ
-  unused = zeros (h.capacity * record_cells - length (records_of n before) * record_cells)
+  pub within : n * record_cells ≤ length before
+  within =
+      subst (λ (m : ℕ). m * record_cells ≤ length before) (length-records n before) (within_area encode_record record_cells length_record h.capacity (records_of n before) before h.cells few)
 
-  -- what holds whenever the loop's test is reached
-  abbrev pub Going : List ℕ → (kept to from left : ℕ) → Type 0
-  Going = Pass encode_record record_cells length_record (is_recent t p) (λ e. leb e.1.time t) (records_of n before) unused h.capacity
+  -- what is known of a record's row that is read
+  pub row_read : (row : List ℕ) → IsRow record_cells n before row → (length row ≡ record_cells) × (get_or row time_at 0 ≤ t)
+  row_read row (i, l, e) =
+      let r = row_encodes encode_record record_cells length_record h.capacity (records_of n before) before h.cells few (λ x. leb x.1.time t) h.past (decode_record []) i (omega (arith, length-records n before)) row e in
+      let x = get_or (records_of n before) i (decode_record []) in
+      (ap length r.0 ∙ length_record x, omega (arith, ap (λ (c : List ℕ). get_or c time_at 0) r.0 ∙ row-time x, leb-true x.1.time t r.1))
 
-  room : length (records_of n before) ≤ h.capacity
-  room = omega (arith, length-records n before, h.room)
+  abbrev pub row_recent : List ℕ → Bool
+  row_recent row = not (ltb p (t - get_or row time_at 0))
 
-  pub start : Going before 0 0 0 n
-  start =
-      subst (Going before 0 0 0) (length-records n before)
-      (pass_start encode_record record_cells length_record (is_recent t p) (λ e. leb e.1.time t) (records_of n before) unused h.capacity before room refl h.cells h.past)
+  same : keep (λ e. row_recent (encode_record e)) (records_of n before) ≡ keep (is_recent t p) (records_of n before)
+  same = ap (λ (f : ℕ × TableRecord → ℕ). keep (λ e. not (ltb p (t - f e))) (records_of n before)) (λ j e. row-time e j)
 
-  module _ (c : List ℕ) (kept to from left : ℕ) (w : Going c kept to from left) (more : 0 < left) where
-    abbrev next : Turn encode_record record_cells length_record (is_recent t p) (λ e. leb e.1.time t) (records_of n before) unused c kept to from left
-    next = pass_turn encode_record record_cells length_record (is_recent t p) (λ e. leb e.1.time t) (records_of n before) unused h.capacity c kept to from left w more
+  -- the capacity is told by the number of cells
+  capacity_is : (m : ℕ) → before ≡ record_area m (records_of n before) → h.capacity ≡ m
+  capacity_is m e =
+      omega (arith, ap length h.cells ∙ length-area encode_record record_cells length_record h.capacity (records_of n before), ap length e ∙ length-area encode_record record_cells length_record m (records_of n before))
 
-    time_is : get_or c (from + time_at) 0 ≡ next.next.1.time
-    time_is = next.cell time_at (omega arith) ∙ row-time next.next
-
-    pub time-read : get_or c (from + time_at) 0 ≤ t
-    time-read = omega (arith, time_is, leb-true next.next.1.time t next.passes)
-
-    test_is : is_recent t p next.next ≡ not (ltb p (t - get_or c (from + time_at) 0))
-    test_is = ap (λ (x : ℕ). not (ltb p (t - x))) (sym time_is)
-
-    pub dropped : not (ltb p (t - get_or c (from + time_at) 0)) ≡ false → Going c kept to (from + record_cells) (left - 1)
-    dropped e =
-        pass_dropped encode_record record_cells length_record (is_recent t p) (λ x. leb x.1.time t) (records_of n before) unused h.capacity c kept to from left w more (test_is ∙ e)
-
-    pub moved : not (ltb p (t - get_or c (from + time_at) 0)) ≡ true → (d : List ℕ) → length d ≡ length c → d ≡ written c to (take record_cells (drop from c)) → Going d (kept + 1) (to + record_cells) (from + record_cells) (left - 1)
-    moved e =
-        pass_moved encode_record record_cells length_record (is_recent t p) (λ x. leb x.1.time t) (records_of n before) unused h.capacity c kept to from left w more (test_is ∙ e)
-
-  pub along : {c d : List ℕ} {j k u v from left : ℕ} → d ≡ c → k ≡ j → v ≡ u → Going c j u from left → Going d k v from left
-  along = pass_along encode_record record_cells length_record (is_recent t p) (λ e. leb e.1.time t) (records_of n before) unused
-
-  module _ (c : List ℕ) (kept to from left : ℕ) (w : Going c kept to from left) (end : left ≤ 0) where
-    left-records : (z : List ℕ) → z ≡ zeros (length (take (from - to) (drop to c))) → put_mid to (from - to) c z ≡ record_area h.capacity (keep (is_recent t p) (records_of n before))
-    left-records = pass_left encode_record record_cells length_record (is_recent t p) (λ e. leb e.1.time t) (records_of n before) unused h.capacity c kept to from left refl room w end
-
-    pub left-size : (z : List ℕ) → z ≡ zeros (length (take (from - to) (drop to c))) → length (put_mid to (from - to) c z) ≡ length before
-    left-size z e =
-        pass_size encode_record record_cells length_record (is_recent t p) (λ x. leb x.1.time t) (records_of n before) unused h.capacity c kept to from left refl room w end z e
-        ∙ sym (ap length h.cells ∙ length-area encode_record record_cells length_record h.capacity (records_of n before))
-
-    -- the capacity is told by the number of cells
-    capacity_is : (m : ℕ) → before ≡ record_area m (records_of n before) → h.capacity ≡ m
-    capacity_is m e =
-        omega (arith, ap length h.cells ∙ length-area encode_record record_cells length_record h.capacity (records_of n before), ap length e ∙ length-area encode_record record_cells length_record m (records_of n before))
-
-    pub kept_are : (z : List ℕ) → z ≡ zeros (length (take (from - to) (drop to c))) → Kept n t p before (put_mid to (from - to) c z) kept
-    kept_are z e =
-        let k : kept ≡ length (keep (is_recent t p) (records_of n before)) =
-        (pass_done encode_record record_cells length_record (is_recent t p) (λ x. leb x.1.time t) (records_of n before) unused h.capacity c kept to from left refl room w end).held in
-        record {
-          held = k;
-          fewer = omega (arith, k, keep-length (is_recent t p) (records_of n before), length-records n before);
-          cells = λ m eb _. left-records z e ∙ ap (λ (x : ℕ). record_area x (keep (is_recent t p) (records_of n before))) (capacity_is m eb);
-        }
+  pub records_kept : (d : List ℕ) (k : ℕ) → (d ≡ kept_rows row_recent record_cells n before) × (k ≡ length (keep row_recent (rows_of record_cells n before))) → Kept n t p before d k
+  records_kept d k (cells, held) =
+      let n' = sym (length-records n before) in
+      let k' : k ≡ length (keep (is_recent t p) (records_of n before)) =
+      held ∙ ap (λ (m : ℕ). length (keep row_recent (rows_of record_cells m before))) n'
+      ∙ kept_length encode_record record_cells length_record h.capacity (records_of n before) before h.cells few row_recent ∙ ap length same in
+      record {
+        held = k';
+        fewer = omega (arith, k', keep-length (is_recent t p) (records_of n before), length-records n before);
+        cells = λ m eb _. cells ∙ ap (λ (j : ℕ). kept_rows row_recent record_cells j before) n'
+            ∙ kept_area encode_record record_cells length_record h.capacity (records_of n before) before h.cells few row_recent
+            ∙ ap (record_area h.capacity) same ∙ ap (λ (x : ℕ). record_area x (keep (is_recent t p) (records_of n before))) (capacity_is m eb);
+      }

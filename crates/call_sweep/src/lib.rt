@@ -1,4 +1,4 @@
-// The sweep: records whose time is more than the purge timeout ago are removed, in one pass that moves each kept record once.
+// The sweep: records whose time is more than the purge timeout ago are removed.
 #![tactic(auto)]
 
 ghost use Rattle.std.specs.Prelude.{◌≡◌, not, ◌-◌, ◌≤◌, ltb, get_or};
@@ -9,12 +9,12 @@ ghost use Rattle.table_changes.specs.Left.{Left};
 ghost use Rattle.rules.specs.Calls as C;
 ghost use Rattle.call_sweep.specs.Sweeping.{RecordsHeld, Kept, purged, swept_as};
 
-use cells_moves::{clear, move_down};
+use cells_moves::keep_where;
 use rules::Swept;
 use table_check::well_formed;
 use table_layout::{PURGE, RECORDS, RECORDS_FROM, TIME};
 use table_record::WIDTH;
-use wire::refusals::{NOT_WELL_FORMED, TIME_BEFORE};
+use wire::refusals::Refusal;
 
 // Where a record's time stands in its row.
 const SEEN: usize = table_record::TIME;
@@ -32,21 +32,7 @@ fn keep_recent(part: &mut [u64], n: usize, time: u64, purge: u64) -> usize
     requires { RecordsHeld n time part.old }
     ensures { Kept n time purge part.old part.new result }
 {
-    let mut kept = 0;
-    let mut to = 0;
-    let mut from = 0;
-    let mut left = n;
-    while 0 < left {
-        if is_recent(part[from + SEEN], time, purge) {
-            move_down(part, from, to, WIDTH);
-            to += WIDTH;
-            kept += 1;
-        }
-        from += WIDTH;
-        left -= 1;
-    }
-    clear(&mut part[to..from]);
-    kept
+    keep_where(part, WIDTH, n, |row| is_recent(row[SEEN], time, purge))
 }
 
 // The answer, put together here alone.
@@ -74,10 +60,10 @@ pub fn sweep(cells: &mut [u64], time: u64) -> Swept
     ensures { Performed cells.old (C.sweep time) (C.answered (C.swept result)) cells.new }
 {
     if !well_formed(cells) {
-        return swept_as(NOT_WELL_FORMED, 0);
+        return swept_as(Refusal::NotWellFormed.number(), 0);
     }
     if time < cells[TIME] {
-        return swept_as(TIME_BEFORE, 0);
+        return swept_as(Refusal::TimeBefore.number(), 0);
     }
     sweep_records(cells, time)
 }

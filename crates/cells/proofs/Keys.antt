@@ -1,7 +1,7 @@
 -- A turn of the loops that read cells, as equations of tests, and keys that rise as the rules say it. Assumes nothing.
 use mathlib.Core.Path.{◌≡◌, refl, sym, ap, ◌∙◌}
 use mathlib.Core.List.{List, [], ◌∷◌, map}
-use mathlib.Core.Bool.{Bool, true, false, ◌&&◌, and_assoc}
+use mathlib.Core.Bool.{Bool, true, false, ◌&&◌, and-true, and_assoc}
 use Prim.Native.Nat.{ℕ, zero, suc, ◌+◌, ◌*◌, ◌-◌, ◌≤◌, ◌<◌, zero-le}
 use native.Mathlib.Nat.{suc-mul, add-zero, zero-mul, not-suc-le-zero, le_of_suc-le-suc}
 use native.Mathlib.Omega.{arith}
@@ -9,8 +9,9 @@ use native.Mathlib.Numerals.{add-one}
 use lib.Bits.{bit_or, or_zero_l, or_add_and, and_le_r}
 use lib.Dec.{leb, ltb, eqb}
 use lib.ListN.{length, take, drop, get_or}
-use lib.Seq.{drop-cons, get_or-drop, get_or-take, drop-drop, drop-length}
+use lib.Seq.{get_or-drop, get_or-take, drop-drop}
 use borrow.Author.Tests.{le-leb, leb-true, ne_eqb}
+use Rattle.std.specs.Prelude.{fold}
 use Rattle.lists.specs.Lists.{all}
 use Rattle.lists.specs.Keyed.{rising}
 use Rattle.cells.specs.Area.{key_of, rows_of, column, rise_from, rise, scan}
@@ -24,17 +25,16 @@ no_bit zero b = rw (or_zero_l b)
 no_bit (suc a) b =
     ne_eqb (bit_or (suc a) b) 0 (omega (arith, or_add_and (suc a) b, and_le_r (suc a) b)) ∙ sym (ap (λ (t : Bool). t && eqb b 0) (ne_eqb (suc a) 0 (omega arith)))
 
--- a test of every cell by joined bits: v are those of the cells before place i, f those of the cell there, 0 exactly where it passes
-module _ (p : ℕ → Bool) (c : List ℕ) (i : ℕ) where
-  pub joined-next : i < length c → (v f : ℕ) → eqb f 0 ≡ p (get_or c i 0) → (eqb v 0 && all p (drop i c)) ≡ (eqb (bit_or v f) 0 && all p (drop (i + 1) c))
-  joined-next h v f e =
-      ap (λ (l : List ℕ). eqb v 0 && all p l) (drop-cons c i 0 h ∙ ap (λ (n : ℕ). get_or c i 0 ∷ drop n c) (sym (add-one i)))
-      ∙ ap (λ (b : Bool). eqb v 0 && (b && all p (drop (i + 1) c))) (sym e)
-      ∙ sym (and_assoc (eqb v 0) (eqb f 0) (all p (drop (i + 1) c)))
-      ∙ ap (λ (b : Bool). b && all p (drop (i + 1) c)) (sym (no_bit v f))
+-- a test of every cell by joined bits: v are those joined before, and f makes of a cell 0 exactly where it passes
+module _ (f : ℕ → ℕ) (p : ℕ → Bool) (e : (x : ℕ) → eqb (f x) 0 ≡ p x) where
+  joined-from : (v : ℕ) (c : List ℕ) → eqb (fold (λ b x. bit_or b (f x)) v c) 0 ≡ eqb v 0 && all p c
+  joined-from v [] = sym (and-true (eqb v 0))
+  joined-from v (x ∷ c) =
+      joined-from (bit_or v (f x)) c ∙ ap (λ (b : Bool). b && all p c) (no_bit v (f x)) ∙ and_assoc (eqb v 0) (eqb (f x) 0) (all p c)
+      ∙ ap (λ (b : Bool). eqb v 0 && (b && all p c)) (e x)
 
-  pub joined_end : i ≡ length c → all p (drop i c) ≡ true
-  joined_end e = ap (λ (k : ℕ). all p (drop k c)) e ∙ ap (all p) (drop-length c)
+  pub joined : (c : List ℕ) → eqb (fold (λ b x. bit_or b (f x)) 0 c) 0 ≡ all p c
+  joined c = joined-from 0 c
 
 -- ---- rows and their keys
 
@@ -125,17 +125,6 @@ module _ (p : List ℕ → Bool) (w low : ℕ) (c : List ℕ) (at left : ℕ) (z
 
   pub scan_end : left ≤ 0 → scan p low (rows_of w left (drop at c)) ≡ true
   scan_end h = ap (scan p low) (rows_none w c at left h)
-
--- the same of a pass that tests each row alone
-module _ (p : List ℕ → Bool) (w : ℕ) (c : List ℕ) (at left : ℕ) where
-  pub all-next : 0 < left → p (take w (drop at c)) ≡ true → all p (rows_of w left (drop at c)) ≡ all p (rows_of w (left - 1) (drop (at + w) c))
-  all-next h e = ap (all p) (rows-one w c at left h) ∙ ap (λ (b : Bool). b && all p (rows_of w (left - 1) (drop (at + w) c))) e
-
-  pub all_stop : 0 < left → p (take w (drop at c)) ≡ false → all p (rows_of w left (drop at c)) ≡ false
-  all_stop h e = ap (all p) (rows-one w c at left h) ∙ ap (λ (b : Bool). b && all p (rows_of w (left - 1) (drop (at + w) c))) e
-
-  pub all_end : left ≤ 0 → all p (rows_of w left (drop at c)) ≡ true
-  all_end h = ap (all p) (rows_none w c at left h)
 
 exchange : (a b x y : Bool) → a && b && (x && y) ≡ a && x && (b && y)
 exchange false b x y = refl

@@ -6,3 +6,4 @@ pub mod Lent
 pub mod Keys
 pub mod Search
 pub mod Compact
+pub mod Chunks

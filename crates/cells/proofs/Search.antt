@@ -15,8 +15,7 @@ use Rattle.lists.specs.Lists.{all, keep}
 use Rattle.lists.specs.Keyed.{lookup, put, rising}
 use Rattle.cells.specs.Area.{rise_from, rise, key_of, rows_of, column, insert_at}
 use Rattle.cells.specs.Find.{Sorted, IsAt, IsPlace, FoundIn, middle, Halving, none_left, equal, upper_half, lower_half, Searched}
-use Rattle.cells.specs.declared.Found.{Found}
-use Rattle.cells.specs.declared.Found.TheVariants.{At, Place}
+use Rattle.std.specs.Prelude.{Result, Ok, Err}
 use Rattle.lists.proofs.Tests.{and_left, and_right}
 use Rattle.cells.proofs.Keys.{keys_of, keys_decoded, rising_keys, length-column, get_or_column}
 
@@ -54,7 +53,7 @@ module _ (ks : List ℕ) (rises : rise ks ≡ true) where
       go true e = let g = eqb-true i j e in let a = ap (λ (m : ℕ). get_or ks m 0) g in omega arith
       go false e = let g = eqb-false i j e in let a = later_above 0 ks i j rises (omega arith) l in omega arith
 
-  halving_finds : {k low left rounds : ℕ} {f : Found} → Halving ks k low left rounds f → Bracket ks k low left → FoundIn ks k f
+  halving_finds : {k low left rounds : ℕ} {f : Result ℕ ℕ} → Halving ks k low left rounds f → Bracket ks k low left → FoundIn ks k f
   halving_finds none_left b =
       let q = b.within in
       record { within = omega arith; below = b.below; above = λ j h l. b.above j (omega arith) l }
@@ -73,7 +72,7 @@ module _ (ks : List ℕ) (rises : rise ks ≡ true) where
 -- ---- how many rounds halving takes: among fewer than 2^e keys at most e
 
 module _ {ks : List ℕ} {k : ℕ} where
-  rounds-few : {low left rounds : ℕ} {f : Found} → Halving ks k low left rounds f → (e : ℕ) → left < 2 ^ e → rounds ≤ e
+  rounds-few : {low left rounds : ℕ} {f : Result ℕ ℕ} → Halving ks k low left rounds f → (e : ℕ) → left < 2 ^ e → rounds ≤ e
   rounds-few none_left e l = zero-le
   rounds-few (equal more t) zero l = absurd (omega (arith, pow-zero 2))
   rounds-few (equal more t) (suc e) l = omega arith
@@ -83,7 +82,7 @@ module _ {ks : List ℕ} {k : ℕ} where
   rounds-few (lower_half more t h) (suc e) l = let p = two-pow-succ e in let r = rounds-few h e (omega arith) in omega arith
 
   -- and no fewer will do: a key below 2^e others takes more than e
-  pub rounds_needed : {low left rounds : ℕ} {f : Found} → Halving ks k low left rounds f → ((j : ℕ) → low ≤ j → j < low + left → k < get_or ks j 0) → (e : ℕ) → 2 ^ e ≤ left → e < rounds
+  pub rounds_needed : {low left rounds : ℕ} {f : Result ℕ ℕ} → Halving ks k low left rounds f → ((j : ℕ) → low ≤ j → j < low + left → k < get_or ks j 0) → (e : ℕ) → 2 ^ e ≤ left → e < rounds
   rounds_needed none_left a e l = let p = pow_pos e in absurd (omega arith)
   rounds_needed (equal {low} {left} more t) a e l = let m = a (middle low left) (omega arith) (omega arith) in absurd (omega arith)
   rounds_needed (upper_half {low} {left} more t h) a e l = let m = a (middle low left) (omega arith) (omega arith) in absurd (omega arith)
@@ -95,7 +94,7 @@ module _ {ks : List ℕ} {k : ℕ} where
 pub record Going (ks : List ℕ) (k n low left rounds : ℕ) : Type 0 where
   pub within : low + left ≤ n
   pub taken : rounds + left ≤ n
-  pub goes : (r : ℕ) (f : Found) → Halving ks k low left r f → Halving ks k 0 n (rounds + r) f
+  pub goes : (r : ℕ) (f : Result ℕ ℕ) → Halving ks k low left r f → Halving ks k 0 n (rounds + r) f
 
 pub going_start : (ks : List ℕ) (k n : ℕ) → Going ks k n 0 n 0
 going_start ks k n = record { within = omega arith; taken = omega arith; goes = λ r f h. rw zero-add h }
@@ -111,7 +110,7 @@ module _ {w n : ℕ} {c : List ℕ} (s : Sorted w n c) where
       omega arith
 
   -- halving that begins with all keys is what the contract asks for
-  searched : {k r : ℕ} {f : Found} → Halving (column w n c) k 0 n r f → Searched (column w n c) k (record { found = f; rounds = r })
+  searched : {k r : ℕ} {f : Result ℕ ℕ} → Halving (column w n c) k 0 n r f → Searched (column w n c) k (record { found = f; rounds = r })
   searched {k} {r} {f} h =
       let l = length-column w n c in
       let g = subst (λ (m : ℕ). Halving (column w n c) k 0 m r f) (sym l) h in
@@ -126,12 +125,12 @@ module _ {w n : ℕ} {c : List ℕ} (s : Sorted w n c) where
     key-read : get_or (column w n c) (middle low left) 0 ≡ get_or c (middle low left * w) 0
     key-read = let q = g.within in get_or_column w n c (middle low left) s.wide (omega arith)
 
-    one_more : (r : ℕ) (f : Found) → Halving (column w n c) k low left (suc r) f → Halving (column w n c) k 0 n (rounds + 1 + r) f
+    one_more : (r : ℕ) (f : Result ℕ ℕ) → Halving (column w n c) k low left (suc r) f → Halving (column w n c) k 0 n (rounds + 1 + r) f
     one_more r f h =
         let e : rounds + suc r ≡ rounds + 1 + r = omega arith in
         subst (λ (m : ℕ). Halving (column w n c) k 0 n m f) e (g.goes (suc r) f h)
 
-    next_round : {low' left' : ℕ} → low' + left' ≤ low + left → left' < left → ((r : ℕ) (f : Found) → Halving (column w n c) k low' left' r f → Halving (column w n c) k low left (suc r) f) → Going (column w n c) k n low' left' (rounds + 1)
+    next_round : {low' left' : ℕ} → low' + left' ≤ low + left → left' < left → ((r : ℕ) (f : Result ℕ ℕ) → Halving (column w n c) k low' left' r f → Halving (column w n c) k low left (suc r) f) → Going (column w n c) k n low' left' (rounds + 1)
     next_round l m h =
         let q = g.within in
         let u = g.taken in
@@ -143,14 +142,14 @@ module _ {w n : ℕ} {c : List ℕ} (s : Sorted w n c) where
     pub going_down : k < get_or c (middle low left * w) 0 → Going (column w n c) k n low (left / 2) (rounds + 1)
     going_down t = next_round (omega arith) (omega arith) (λ r f. lower_half more (omega (arith, key-read)))
 
-    pub ends_at : get_or c (middle low left * w) 0 ≡ k → Searched (column w n c) k (record { found = At (middle low left); rounds = rounds + 1 })
-    ends_at t = searched (g.goes 1 (At (middle low left)) (equal more (key-read ∙ t)))
+    pub ends_at : get_or c (middle low left * w) 0 ≡ k → Searched (column w n c) k (record { found = Ok (middle low left); rounds = rounds + 1 })
+    ends_at t = searched (g.goes 1 (Ok (middle low left)) (equal more (key-read ∙ t)))
 
-  pub ends_between : {k low left rounds : ℕ} → Going (column w n c) k n low left rounds → left ≤ 0 → Searched (column w n c) k (record { found = Place low; rounds = rounds })
+  pub ends_between : {k low left rounds : ℕ} → Going (column w n c) k n low left rounds → left ≤ 0 → Searched (column w n c) k (record { found = Err low; rounds = rounds })
   ends_between {k} {low} {left} {rounds} g shut =
       let e : 0 ≡ left = omega arith in
-      subst (λ (m : ℕ). Searched (column w n c) k (record { found = Place low; rounds = m })) (add-zero rounds)
-      (searched (g.goes 0 (Place low) (subst (λ (m : ℕ). Halving (column w n c) k low m 0 (Place low)) e none_left)))
+      subst (λ (m : ℕ). Searched (column w n c) k (record { found = Err low; rounds = m })) (add-zero rounds)
+      (searched (g.goes 0 (Err low) (subst (λ (m : ℕ). Halving (column w n c) k low m 0 (Err low)) e none_left)))
 
 -- ---- what the place of a key says of a map: what stands under it, and the entries below and above it
 

@@ -1,8 +1,7 @@
 -- What a search among rows finds, and how many rounds it takes.
 use Rattle.std.specs.Prelude.{◌≡◌, List, true, ℕ, suc, ◌+◌, ◌*◌, ◌-◌, ◌/◌, ◌^◌, ◌≤◌, ◌<◌, length, get_or}
 use Rattle.cells.specs.Area.{column, rise}
-use Rattle.cells.specs.declared.Found.{Found}
-use Rattle.cells.specs.declared.Found.TheVariants.{At, Place}
+use Rattle.std.specs.Prelude.{Result, Ok, Err}
 use Rattle.cells.specs.declared.SearchResult.{SearchResult}
 
 -- n rows of w cells whose keys rise: what a search asks for
@@ -23,9 +22,9 @@ pub record IsPlace (ks : List ℕ) (k i : ℕ) : Type 0 where
   pub above : (j : ℕ) → i ≤ j → j < length ks → k < get_or ks j 0
 
 -- what was found of the key k among the keys ks
-abbrev pub FoundIn : List ℕ → (k : ℕ) → Found → Type 0
-FoundIn ks k (At i) = IsAt ks k i
-FoundIn ks k (Place i) = IsPlace ks k i
+abbrev pub FoundIn : List ℕ → (k : ℕ) → Result ℕ ℕ → Type 0
+FoundIn ks k (Ok i) = IsAt ks k i
+FoundIn ks k (Err i) = IsPlace ks k i
 
 -- ---- rounds
 
@@ -35,11 +34,11 @@ middle low left = low + left / 2
 
 -- A search by halving for k, while these keys are left: how many rounds it takes from here, and what it ends with. Each round compares k with one key,
 -- the middle one, and ends there or goes on with those above it or below it.
-pub data Halving (ks : List ℕ) (k : ℕ) : (low left rounds : ℕ) → Found → Type 0 where
-  none_left : {low : ℕ} → Halving ks k low 0 0 (Place low)
-  equal : {low left : ℕ} → 0 < left → get_or ks (middle low left) 0 ≡ k → Halving ks k low left 1 (At (middle low left))
-  upper_half : {low left rounds : ℕ} {f : Found} → 0 < left → get_or ks (middle low left) 0 < k → Halving ks k (middle low left + 1) (left - (left / 2 + 1)) rounds f → Halving ks k low left (suc rounds) f
-  lower_half : {low left rounds : ℕ} {f : Found} → 0 < left → k < get_or ks (middle low left) 0 → Halving ks k low (left / 2) rounds f → Halving ks k low left (suc rounds) f
+pub data Halving (ks : List ℕ) (k : ℕ) : (low left rounds : ℕ) → Result ℕ ℕ → Type 0 where
+  none_left : {low : ℕ} → Halving ks k low 0 0 (Err low)
+  equal : {low left : ℕ} → 0 < left → get_or ks (middle low left) 0 ≡ k → Halving ks k low left 1 (Ok (middle low left))
+  upper_half : {low left rounds : ℕ} {f : Result ℕ ℕ} → 0 < left → get_or ks (middle low left) 0 < k → Halving ks k (middle low left + 1) (left - (left / 2 + 1)) rounds f → Halving ks k low left (suc rounds) f
+  lower_half : {low left rounds : ℕ} {f : Result ℕ ℕ} → 0 < left → k < get_or ks (middle low left) 0 → Halving ks k low (left / 2) rounds f → Halving ks k low left (suc rounds) f
 
 -- what a search for the key k among the keys ks answers: where k is or belongs, the rounds that halving took from all keys to there, and that among
 -- fewer than 2^e keys they are at most e

@@ -9,22 +9,16 @@ ghost use Rattle.cells.specs.Find.{Sorted, Searched};
 // How many cells a pair takes: a key and what stands under it.
 pub const PAIR: usize = 2;
 
-// Where a key stands among rows that rise by their keys, or the place where its row would go.
-#[derive(Clone, Copy)]
-pub enum Found {
-    At(usize),
-    Place(usize),
-}
-
-// What a search found, and in how many rounds.
+// What a search found, and in how many rounds: `Ok` with the place of the key's row among rows that rise by their keys, or `Err` with the place where
+// its row would go.
 #[derive(Clone, Copy)]
 pub struct SearchResult {
-    pub found: Found,
+    pub found: Result<usize, usize>,
     pub rounds: usize,
 }
 
 // Finds a key among the first n rows of w cells, by halving. Each round compares it with one row's key, the middle one of those that are left, from row
-// `low` on.
+// `low` on. A loop by hand: the library's binary search is over elements, where a row has w cells, and counts no rounds.
 pub fn find(cells: &[u64], w: usize, n: usize, key: u64) -> SearchResult
     requires { Sorted w n cells.now }
     ensures { Searched (column w n cells.now) key result }
@@ -39,7 +33,7 @@ pub fn find(cells: &[u64], w: usize, n: usize, key: u64) -> SearchResult
         rounds += 1;
         if other == key {
             return SearchResult {
-                found: Found::At(middle),
+                found: Ok(middle),
                 rounds,
             };
         }
@@ -51,7 +45,7 @@ pub fn find(cells: &[u64], w: usize, n: usize, key: u64) -> SearchResult
         }
     }
     SearchResult {
-        found: Found::Place(low),
+        found: Err(low),
         rounds,
     }
 }
@@ -61,11 +55,9 @@ pub fn find(cells: &[u64], w: usize, n: usize, key: u64) -> SearchResult
 pub fn all_zero(cells: &[u64]) -> bool
     ensures { result ≡ all_zero cells.now }
 {
-    let mut bits: u64 = 0;
-    let mut i = 0;
-    while i < cells.len() {
-        bits = bits | cells[i];
-        i += 1;
+    let mut bits = 0;
+    for &cell in cells {
+        bits |= cell;
     }
     bits == 0
 }

@@ -2,18 +2,16 @@
 // Nothing here knows what a row means; the contracts speak of lists of cells alone.
 #![tactic(auto)]
 
-ghost use Rattle.std.specs.Prelude.{◌≡◌, ◌+◌, ◌≤◌, length, take, drop};
-ghost use Rattle.cells.specs.Area.{fit, zeros, written, moved_up, put_in};
+ghost use Rattle.std.specs.Prelude.{◌≡◌, ◌+◌, ◌*◌, ◌≤◌, Bool, List, ℕ, length, take, drop};
+ghost use Rattle.lists.specs.Lists.{keep};
+ghost use Rattle.cells.specs.Area.{fit, zeros, written, moved_up, put_in, rows_of};
+ghost use Rattle.cells_moves.specs.Keeping.{IsRow, kept_rows};
 
 // Fills the cells with zeros.
 pub fn clear(cells: &mut [u64])
     ensures { cells.new ≡ zeros (length cells.old) }
 {
-    let mut i = 0;
-    while i < cells.len() {
-        cells[i] = 0;
-        i += 1;
-    }
+    cells.fill(0);
 }
 
 // Writes a row over the cells from `at` on.
@@ -21,11 +19,7 @@ pub fn write(cells: &mut [u64], at: usize, row: &[u64])
     requires { at + length row.now ≤ length cells.old }
     ensures { cells.new ≡ written cells.old at row.now }
 {
-    let mut j = 0;
-    while j < row.len() {
-        cells[at + j] = row[j];
-        j += 1;
-    }
+    cells[at..at + row.len()].copy_from_slice(row);
 }
 
 // Writes a row over the first cells, and zeros over all behind it.
@@ -39,7 +33,6 @@ pub fn fill(cells: &mut [u64], row: &[u64])
 }
 
 // Moves w cells down, from one place to a lower one; the two may overlap. Where they are one place, nothing is touched.
-// Two cells a turn, both read before either is written, so that the machine can move them as one.
 pub fn move_down(cells: &mut [u64], from: usize, to: usize, w: usize)
     requires { (to ≤ from) × (from + w ≤ length cells.old) }
     ensures { cells.new ≡ written cells.old to (take w (drop from cells.old)) }
@@ -47,17 +40,7 @@ pub fn move_down(cells: &mut [u64], from: usize, to: usize, w: usize)
     if to == from {
         return;
     }
-    let mut j = 0;
-    while j + 1 < w {
-        let first = cells[from + j];
-        let second = cells[from + j + 1];
-        cells[to + j] = first;
-        cells[to + j + 1] = second;
-        j += 2;
-    }
-    if j < w {
-        cells[to + j] = cells[from + j];
-    }
+    cells.copy_within(from..from + w, to);
 }
 
 // Moves every cell from `at` on up by w: the last w fall off, and the w at `at` stay as they were.
@@ -65,12 +48,8 @@ pub fn move_up(cells: &mut [u64], at: usize, w: usize)
     requires { at + w ≤ length cells.old }
     ensures { cells.new ≡ moved_up cells.old at w }
 {
-    let low = at + w;
-    let mut k = cells.len();
-    while low < k {
-        k -= 1;
-        cells[k] = cells[k - w];
-    }
+    let end = cells.len() - w;
+    cells.copy_within(at..end, at + w);
 }
 
 // Puts a row in at `at`: what follows moves up, and what no longer fits falls off the end.
@@ -80,4 +59,22 @@ pub fn put_in(cells: &mut [u64], at: usize, row: &[u64])
 {
     move_up(cells, at, row.len());
     write(cells, at, row);
+}
+
+// Keeps those of n rows of w cells that pass a test, in one pass that moves each kept row once; and how many they are.
+pub fn keep_where<F: Fn(&[u64]) -> bool>(cells: &mut [u64], w: usize, n: usize, passes: F) -> usize
+    requires within { n * w ≤ length cells.old }
+    requires callable { (row : _) → IsRow w n cells.old row.now → F.pre passes row }
+    ensures { (p : List ℕ → Bool) → ((row : _) (r : Bool) → IsRow w n cells.old row.now → F.post passes row r → r ≡ p row.now) → (cells.new ≡ kept_rows p w n cells.old) × (result ≡ length (keep p (rows_of w n cells.old))) }
+{
+    let mut kept = 0;
+    for i in 0..n {
+        let from = i * w;
+        if passes(&cells[from..from + w]) {
+            move_down(cells, from, kept * w, w);
+            kept += 1;
+        }
+    }
+    clear(&mut cells[kept * w..n * w]);
+    kept
 }

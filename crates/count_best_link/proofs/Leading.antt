@@ -1,10 +1,9 @@
 -- The search for a link that does not stand below this one, turn by turn. Assumes nothing.
-use mathlib.Core.Path.{◌≡◌, refl, sym, ap, ◌∙◌}
+use mathlib.Core.Path.{◌≡◌, sym, ap, ◌∙◌}
 use mathlib.Core.List.{List, [], ◌∷◌}
 use mathlib.Core.Bool.{Bool, ◌&&◌, ◌||◌}
 use Prim.Native.Nat.{ℕ, ◌+◌, ◌≤◌, ◌<◌}
 use lib.Dec.{eqb}
-use borrow.Author.Tests.{eq-eqb}
 use Rattle.lists.specs.Lists.{all}
 use Rattle.lists.specs.Keyed.{map_values}
 use Rattle.window.specs.Window.{shift, count}
@@ -47,7 +46,3 @@ module _ (c : List ℕ) (step : Step) (n i key' v : ℕ) (h : i < n) (ek : key' 
 -- no link is left
 pub moved_none : (c : List ℕ) (step : Step) (n i : ℕ) → n ≤ i → from c step n i ≡ []
 moved_none c step n i h = ap (map_values (shift step.policy.window step.up)) (left-none n c i h)
-
--- so all stand below
-pub leads_all : (c : List ℕ) (step : Step) (n i : ℕ) (κ : Config) (key own : ℕ) → n ≤ i → eqb key key ≡ leads κ key own (from c step n i)
-leads_all c step n i κ key own h = eq-eqb key key refl ∙ sym (ap (leads κ key own) (moved_none c step n i h))

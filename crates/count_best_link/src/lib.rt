@@ -46,15 +46,13 @@ fn first_not_below(part: &[u64], n: usize, step: Step, key: u64, marks: Marks) -
     let p = step.policy;
     let least = least_not_below(p, count(marks));
     let mut found = key;
-    let mut i = 0;
-    while i < n {
+    for i in 0..n {
         let other = key_at(part, i);
         let moved = shift(p.window, step.up, marks_at(part, i));
         if !yields(key, least, other, moved) {
             found = other;
             break;
         }
-        i += 1;
     }
     found
 }

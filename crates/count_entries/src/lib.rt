@@ -25,10 +25,8 @@ fn write_entries(part: &mut [u64], hna: &[u8], n: usize)
     requires { (n ≡ entries hna.now) × (n ≤ length part.old) }
     ensures { part.new ≡ written part.old 0 (entries_of hna.now) }
 {
-    let mut k = 0;
-    while k < n {
+    for k in 0..n {
         part[k] = entry_at(hna, k);
-        k += 1;
     }
 }
 

@@ -25,7 +25,7 @@ use Rattle.table_record.specs.Record.{current_at, links_of, encode_record, decod
 use Rattle.table_record.proofs.Rows.{small-pair, length_record, record_back, unused_zero_lem}
 use Rattle.table_record.proofs.Routes.{route_is}
 use Rattle.count_links.specs.Links.{stays}
-use Rattle.count_in_record.specs.declared.Counting.TheVariants.{Done}
+use Rattle.std.specs.Prelude.{Ok}
 use Rattle.count_in_record.specs.Counting.{counted_fault, CountedIn}
 use Rattle.count_in_record.proofs.Rows.{no_fault, first, first_is}
 
@@ -84,5 +84,5 @@ module _ (κ : Config) (m : Message) (ttl : m.ttl < octets) (link : is_address (
       (rising_out (next_record κ m (decode_record row).1).links (rising-keep (stays (next_record κ m (decode_record row).1).best) (put m.link v ls) (rising-put m.link v ls (rising-map_values d (links_of row) (rising_in (links_of row) h.rises)))))
 
   -- counted
-  pub counted-held : (v : Marks) (before after : List ℕ) → Held before → CountedIn κ m before after (Done v) → Held after
+  pub counted-held : (v : Marks) (before after : List ℕ) → Held before → CountedIn κ m before after (Ok v) → Held after
   counted-held v before after h w = subst Held (sym w.1) (next-held before (decode_record before).0 h w.0)

@@ -22,7 +22,6 @@ use Rattle.window.specs.declared.Position.{Position}
 use Rattle.window.specs.Window.{numbers, distance, position, is_new, is_stale, new, stale, current_by, advance, shift, mark, count}
 use Rattle.window.specs.Marks.{word_of}
 use Rattle.window.proofs.Numbers.{distance_self}
-use Rattle.wire.specs.declared.Fault.{Fault}
 use Rattle.wire.specs.Check.{numbered, entries}
 use Rattle.wire.specs.Entries.{entries_of}
 use Rattle.rules.specs.Messages.{Message}
@@ -42,7 +41,8 @@ use Rattle.count_links.specs.declared.Left.{Left}
 use Rattle.count_links.specs.Links.{stays, scratch_cells, Built, Recounted}
 use Rattle.count_links.proofs.Cells.{cells_of}
 use Rattle.count_links.proofs.Places.{mark_has}
-use Rattle.count_in_record.specs.declared.Counting.TheVariants.{Done, Refused}
+use Rattle.std.specs.Prelude.{Ok, Err}
+use Rattle.wire.specs.declared.refusals.Refusal.TheVariants.{LinksFull, EntriesFull}
 use Rattle.count_in_record.specs.Counting.{counted_fault, CountedIn}
 
 -- five fields set, and the cells of the links lent
@@ -166,18 +166,18 @@ module _ (κ : Config) (row : List ℕ) (m : Message) {p : Policy} (f : Follows 
         ∙ (λ i. marks_at (keep (stays (best_is i)) (put m.link (mark (marks_at (links-held i) m.link) (below_is i)) (links-held i))) m.link)
 
     -- 11: too many links
-    pub counted_11 : link_most < left.links → {r : Fault} → r ≡ numbered 11 → CountedIn κ m row row (Refused r)
-    counted_11 h e = (fault_11 κ after (omega (arith, done-size links_are)) ∙ ap some (sym e), refl)
+    pub counted_11 : link_most < left.links → CountedIn κ m row row (Err LinksFull)
+    counted_11 h = (fault_11 κ after (omega (arith, done-size links_are)), refl)
 
     module _ (few : left.links ≤ link_most) {replaced : Bool} (er : replaced ≡ new p.window (get_or row current_at 0) m.sequence) where
       links-few : length after.links ≤ link_most
       links-few = omega (arith, done-size links_are)
 
       -- 15: too many entries, which would replace those that are kept
-      pub counted_15 : replaced ≡ true → entry_most < length m.entries → {r : Fault} → r ≡ numbered 15 → CountedIn κ m row row (Refused r)
-      counted_15 t h e =
+      pub counted_15 : replaced ≡ true → entry_most < length m.entries → CountedIn κ m row row (Err EntriesFull)
+      counted_15 t h =
           let es : after.entries ≡ m.entries = entries_are er ∙ ap (λ (b : Bool). cond b m.entries (entries_in row)) t in
-          (fault_15 κ after links-few (omega (arith, ap length es)) ∙ ap some (sym e), refl)
+          (fault_15 κ after links-few (omega (arith, ap length es)), refl)
 
       module _ (held : Held row) (most : replaced ≡ true → length m.entries ≤ entry_most) where
         entries-few : length after.entries ≤ entry_most
@@ -194,7 +194,7 @@ module _ (κ : Config) (row : List ℕ) (m : Message) {p : Policy} (f : Follows 
 
         pub counted-now : (row2 : List ℕ) → length out ≡ scratch_cells → {n : ℕ} → n ≡ length m.entries
             → row2 ≡ get_or row address_at 0 ∷ next ∷ m.time ∷ m.ttl ∷ left.links ∷ left.best ∷ cond replaced n (get_or row entries_at 0) ∷ (fit (link_most * link_cells) (take (left.links * link_cells) out) ++ cond replaced (fit entry_area_cells m.entries) (entries_part row))
-            → CountedIn κ m row row2 (Done left.marks)
+            → CountedIn κ m row row2 (Ok left.marks)
         unfolding encode_record next_record decode_record
         counted-now row2 len en e = (
           fault_none κ after links-few entries-few,

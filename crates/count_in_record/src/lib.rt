@@ -23,18 +23,10 @@ use table_record::{
     links_part, put_link, route_by,
 };
 use window::{Marks, Position, advance, distance, is_new, mark, no_marks};
-use wire::refusals::{ENTRIES_FULL, LINKS_FULL};
-use wire::{Fault, refusal};
+use wire::refusals::Refusal;
 
 // Room for one link more: the ninth is there only until it is known whether another gives up its place.
 const SCRATCH: usize = LINKS_CELLS + LINK;
-
-// How counting ends: done, the message's link having these marks, or refused.
-#[derive(Clone, Copy)]
-pub enum Counting {
-    Done(Marks),
-    Refused(Fault),
-}
 
 // Writes a record's cells after its address: the window's current number, the message that was counted, the links, and zeros behind them. The entries
 // are not touched.
@@ -69,8 +61,8 @@ fn store_message(
     }
 }
 
-// Counts a message whose link stands at this spot and whose number lies so beside the window. Nothing changes where it is refused: the links are written to a scratch first, and to the row
-// once it is known that they and the entries fit.
+// Counts a message whose link stands at this spot and whose number lies so beside the window, and answers the marks that the link then has. Nothing changes
+// where it is refused: the links are written to a scratch first, and to the row once it is known that they and the entries fit.
 pub fn count_message(
     row: &mut [u64],
     p: Policy,
@@ -78,7 +70,7 @@ pub fn count_message(
     hna: &[u8],
     spot: Spot,
     position: Position,
-) -> Counting
+) -> Result<Marks, Refusal>
     requires { Held row.old × Bounded p × SpotOf (links_of row.old) m.link spot × Timely p row.old m.sequence position }
     ensures { (κ : Config) → Follows κ p → CountedIn κ (message_of m hna.now) row.old row.new result }
 {
@@ -95,16 +87,15 @@ pub fn count_message(
     let mut out = [0u64; SCRATCH];
     let left = recount(&mut out, links_part(row), n, spot, step, m.link, row[BEST]);
     if LINKS_MOST < left.links as u64 {
-        return Counting::Refused(refusal(LINKS_FULL));
+        return Err(Refusal::LinksFull);
     }
     let replaced = is_new(position);
     if replaced & too_many(hna) {
-        return Counting::Refused(refusal(ENTRIES_FULL));
+        return Err(Refusal::EntriesFull);
     }
     let end = left.links * LINK;
     store_message(row, next, m, hna, replaced, left, &out[..end]);
-    let marks = left.marks;
-    Counting::Done(marks)
+    Ok(left.marks)
 }
 
 // Writes the record that the first counted message makes, whatever the row held, and answers its route: its only link is best.

@@ -17,8 +17,7 @@ use Rattle.lists.proofs.Tests.{and_left, and_right}
 use Rattle.lists.proofs.Lists.{keep_append, keep-map, all_append, all_keep, all_meet}
 use Rattle.lists.proofs.Keyed.{lookup-map_values, all-put}
 use Rattle.cells.specs.Area.{column}
-use Rattle.cells.specs.declared.Found.{Found}
-use Rattle.cells.specs.declared.Found.TheVariants.{At, Place}
+use Rattle.std.specs.Prelude.{Result, Ok, Err}
 use Rattle.cells.specs.Find.{Sorted, IsAt, FoundIn}
 use Rattle.cells.proofs.Bools.{same_test}
 use Rattle.cells.proofs.Keys.{length-column}
@@ -41,8 +40,8 @@ use Rattle.count_links.specs.Links.{stays, Located, SpotOf, Built, Arranged, Rec
 
 -- ---- what a search found
 
-module _ (n : ℕ) (c : List ℕ) (s : Sorted link_cells n c) (key : ℕ) {f : Found} (found : FoundIn (column link_cells n c) key f) {i : ℕ} where
-  module _ (e : f ≡ At i) where
+module _ (n : ℕ) (c : List ℕ) (s : Sorted link_cells n c) (key : ℕ) {f : Result ℕ ℕ} (found : FoundIn (column link_cells n c) key f) {i : ℕ} where
+  module _ (e : f ≡ Ok i) where
     is_at : IsAt (column link_cells n c) key i
     is_at = subst (FoundIn (column link_cells n c) key) e found
 
@@ -62,7 +61,7 @@ module _ (n : ℕ) (c : List ℕ) (s : Sorted link_cells n c) (key : ℕ) {f : F
           marks = ev ∙ marks-found n c key i s is_at;
         }
 
-  pub located-place : {v : ℕ} → v ≡ 0 → f ≡ Place i → Located (links_from n c) key i i v
+  pub located-place : {v : ℕ} → v ≡ 0 → f ≡ Err i → Located (links_from n c) key i i v
   located-place ev e =
       let p = subst (FoundIn (column link_cells n c) key) e found in
       let h = p.within in

@@ -12,7 +12,7 @@ ghost use Rattle.count_best_link.specs.BestLink.{Links, moved};
 ghost use Rattle.count_links.specs.Links as L;
 ghost use Rattle.count_links.specs.Links.{Blank, SpotOf, Built, Arranged, Recounted};
 
-use cells::{Found, find};
+use cells::find;
 use count_best_link::{Step, choose};
 use table_record::{LINK, key_at, marks_at, put_link};
 use window::{Marks, has_mark, mark, no_marks, shift};
@@ -31,15 +31,13 @@ fn keep_links(out: &mut [u64], m: usize, part: &[u64], n: usize, step: Step, bes
 {
     let p = step.policy;
     let mut k = m;
-    let mut i = 0;
-    while i < n {
+    for i in 0..n {
         let key = key_at(part, i);
         let marks = shift(p.window, step.up, marks_at(part, i));
         if stays(best, key, marks) {
             put_link(out, k, key, marks);
             k += 1;
         }
-        i += 1;
     }
     k
 }
@@ -57,14 +55,13 @@ pub fn locate(part: &[u64], n: usize, key: u64) -> Spot
     requires { Sorted link_cells n part.now }
     ensures { SpotOf (links_from n part.now) key result }
 {
-    let f = find(part, LINK, n, key).found;
-    match f {
-        Found::At(i) => Spot {
+    match find(part, LINK, n, key).found {
+        Ok(i) => Spot {
             low: i,
             high: i + 1,
             marks: marks_at(part, i),
         },
-        Found::Place(i) => Spot {
+        Err(i) => Spot {
             low: i,
             high: i,
             marks: no_marks(),

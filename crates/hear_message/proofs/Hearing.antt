@@ -13,14 +13,15 @@ use Rattle.window.specs.declared.Marks.{Marks}
 use Rattle.window.specs.declared.Position.{Position}
 use Rattle.window.specs.Window.{numbers, position, is_inside, inside, marked}
 use Rattle.window.specs.Marks.{word_of}
+use Rattle.std.specs.Prelude.{Ok, Err}
 use Rattle.wire.specs.declared.Fault.{Fault}
+use Rattle.wire.specs.declared.refusals.Refusal.{Refusal}
 use Rattle.rules.specs.declared.Policy.{Policy}
 use Rattle.rules.specs.Messages.{Message}
 use Rattle.rules.specs.Settings.{Config, Follows}
 use Rattle.rules.specs.Table.{TableRecord, marks_at, next_record, is_marked}
 use Rattle.table_record.specs.Record.{current_at, last_ttl_at, links_of, encode_record, decode_record}
 use Rattle.table_record.proofs.Rows.{record_back}
-use Rattle.count_in_record.specs.declared.Counting.TheVariants.{Done, Refused}
 use Rattle.count_in_record.specs.Counting.{counted_fault, CountedIn}
 use Rattle.count_in_record.proofs.Rows.{no_fault}
 use Rattle.hear_message.specs.declared.Answer.{Answer}
@@ -67,13 +68,13 @@ module _ (κ : Config) (m : Message) (b : Bool) (row : List ℕ) {duplicate : Bo
   row_if taken = cond taken (encode_record ((decode_record row).0, next)) row
 
   -- not counted
-  pub heard-kept : {a : Answer} → (b && not duplicate) ≡ false → Answered κ m.link x (not duplicate || eqb m.ttl (get_or row last_ttl_at 0)) a → HeardIn κ m b row row (H.Uncounted a)
+  pub heard-kept : {a : Answer} → (b && not duplicate) ≡ false → Answered κ m.link x (not duplicate || eqb m.ttl (get_or row last_ttl_at 0)) a → HeardIn κ m b row row (Ok (H.Uncounted a))
   unfolding decode_record
   heard-kept {a} t w =
       record { answers = (counted_is t, subst (λ (d : Bool). Answered κ m.link x (not d || eqb m.ttl x.last_ttl) a) ed w); cells = sym (ap (λ (c : Bool). row_if (c && maybe (counted_fault κ next) true (λ f. false))) (counted_is t)) }
 
   -- counted
-  module _ {after : List ℕ} (v : Marks) (w : CountedIn κ m row after (Done v)) where
+  module _ {after : List ℕ} (v : Marks) (w : CountedIn κ m row after (Ok v)) where
     left : (decode_record after).1 ≡ next
     left = ap (λ (l : List ℕ). (decode_record l).1) w.1 ∙ ap (λ (p : ℕ × TableRecord). p.1) (let few = no_fault κ next w.0 in record_back ((decode_record row).0, next) few.0 few.1)
 
@@ -82,7 +83,7 @@ module _ (κ : Config) (m : Message) (b : Bool) (row : List ℕ) {duplicate : Bo
     counted-marks = w.2 ∙ sym (ap (λ (y : TableRecord). marks_at y.links m.link) left)
 
     -- and so no duplicate
-    pub heard-counted : {a : Answer} → (b && not duplicate) ≡ true → Answered κ m.link (decode_record after).1 true a → HeardIn κ m b row after (H.Counted a)
+    pub heard-counted : {a : Answer} → (b && not duplicate) ≡ true → Answered κ m.link (decode_record after).1 true a → HeardIn κ m b row after (Ok (H.Counted a))
     heard-counted {a} t g =
         let new : true ≡ is_fresh_in κ m x = ap (λ (z : Bool). z || eqb m.ttl x.last_ttl) (sym (ap not (sym ed) ∙ and_right b (not duplicate) t)) in
         let taken = both (counted_is t) (ap (λ (o : Option Fault). maybe o true (λ f. false)) w.0) in
@@ -92,5 +93,5 @@ module _ (κ : Config) (m : Message) (b : Bool) (row : List ℕ) {duplicate : Bo
         }
 
   -- refused
-  pub heard-refused : {after : List ℕ} (f : Fault) → (b && not duplicate) ≡ true → CountedIn κ m row after (Refused f) → HeardIn κ m b row after (H.Refused f)
+  pub heard-refused : {after : List ℕ} (f : Refusal) → (b && not duplicate) ≡ true → CountedIn κ m row after (Err f) → HeardIn κ m b row after (Err f)
   heard-refused f t w = record { answers = (counted_is t, w.0); cells = w.1 ∙ sym (ap₂ (λ (c : Bool) (o : Option Fault). row_if (c && maybe o true (λ g. false))) (counted_is t) w.0) }

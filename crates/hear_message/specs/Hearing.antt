@@ -1,7 +1,9 @@
 -- What becomes of a message that came to the record x, and what is answered of it. The rules are those of `rules`; here are names alone.
-use Rattle.std.specs.Prelude.{ℕ, ◌≡◌, Bool, true, false, cond, ◌&&◌, ◌||◌, not, List, eqb}
+use Rattle.std.specs.Prelude.{ℕ, ◌≡◌, Bool, true, false, cond, ◌&&◌, ◌||◌, not, List, Result, Ok, Err, eqb}
 use Rattle.std.proofs.Math.Option.{some}
 use Rattle.lists.specs.Lists.{maybe}
+use Rattle.wire.specs.declared.refusals.Refusal.{Refusal}
+use Rattle.wire.specs.Refusals.{fault_by}
 use Rattle.rules.specs.Settings.{Config}
 use Rattle.rules.specs.Messages.{Message}
 use Rattle.rules.specs.Rules.{sequence_of, route_of}
@@ -35,12 +37,12 @@ pub record Answered (κ : Config) (l : ℕ) (y : TableRecord) (new : Bool) (a : 
   pub route : a.route ≡ route_of table κ (some y)
 
 -- what becomes of it: counted, not counted, or refused. It is fresh by x, best and route are by what is left
-abbrev pub Answers : Config → Message → (bidirectional : Bool) → (x : TableRecord) → Heard → Type 0
-Answers κ m b x (H.Counted a) = (is_taken κ m b x ≡ true) × Answered κ m.link (next_record κ m x) (is_fresh_in κ m x) a
-Answers κ m b x (H.Uncounted a) = (is_counted κ m b x ≡ false) × Answered κ m.link x (is_fresh_in κ m x) a
-Answers κ m b x (H.Refused f) = (is_counted κ m b x ≡ true) × (counted_fault κ (next_record κ m x) ≡ some f)
+abbrev pub Answers : Config → Message → (bidirectional : Bool) → (x : TableRecord) → Result Heard Refusal → Type 0
+Answers κ m b x (Ok (H.Counted a)) = (is_taken κ m b x ≡ true) × Answered κ m.link (next_record κ m x) (is_fresh_in κ m x) a
+Answers κ m b x (Ok (H.Uncounted a)) = (is_counted κ m b x ≡ false) × Answered κ m.link x (is_fresh_in κ m x) a
+Answers κ m b x (Err r) = (is_counted κ m b x ≡ true) × (counted_fault κ (next_record κ m x) ≡ some (fault_by r))
 
 -- and the row of its cells is that of what is left
-pub record HeardIn (κ : Config) (m : Message) (bidirectional : Bool) (before after : List ℕ) (r : Heard) : Type 0 where
+pub record HeardIn (κ : Config) (m : Message) (bidirectional : Bool) (before after : List ℕ) (r : Result Heard Refusal) : Type 0 where
   pub answers : Answers κ m bidirectional (decode_record before).1 r
   pub cells : after ≡ cond (is_taken κ m bidirectional (decode_record before).1) (encode_record ((decode_record before).0, next_record κ m (decode_record before).1)) before

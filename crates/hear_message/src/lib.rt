@@ -11,12 +11,12 @@ ghost use Rattle.table_record.specs.Record.{links_of, decode_record, Held};
 ghost use Rattle.count_in_record.specs.Counting.{Timely};
 ghost use Rattle.hear_message.specs.Hearing.{Answered, HeardIn};
 
-use count_in_record::{Counting, count_message};
+use count_in_record::count_message;
 use count_links::locate;
 use rules::{Ogm, Policy, Route};
 use table_record::{BEST, CURRENT, LAST_TTL, LINKS, links_part, route_by, route_of};
 use window::{Marks, Position, is_duplicate};
-use wire::Fault;
+use wire::refusals::Refusal;
 
 // What is answered of a message: whether it was no duplicate or had the last TTL, whether its link is best, and the route of its originator.
 #[derive(Clone, Copy)]
@@ -26,12 +26,11 @@ pub struct Answer {
     pub route: Route,
 }
 
-// What becomes of a message to a record: counted, not counted, or refused as counting is.
+// What becomes of a message to a record: counted or not.
 #[derive(Clone, Copy)]
 pub enum Heard {
     Counted(Answer),
     Uncounted(Answer),
-    Refused(Fault),
 }
 
 // The answer to a message, by the row as it is left.
@@ -70,7 +69,7 @@ pub fn hear(
     hna: &[u8],
     bidirectional: bool,
     position: Position,
-) -> Heard
+) -> Result<Heard, Refusal>
     requires { Held row.old × Bounded p × (is_address (neighbour_of m.link) ≡ true) × Timely p row.old m.sequence position }
     ensures { (κ : Config) → Follows κ p → HeardIn κ (message_of m hna.now) bidirectional row.old row.new result }
 {
@@ -79,11 +78,8 @@ pub fn hear(
     let duplicate = is_duplicate(position, row[CURRENT] as u16, m.sequence, marks);
     if !(bidirectional & !duplicate) {
         let fresh = !duplicate | (m.ttl as u64 == row[LAST_TTL]);
-        return Heard::Uncounted(answer_of(row, p, m, fresh));
+        return Ok(Heard::Uncounted(answer_of(row, p, m, fresh)));
     }
-    let counting = count_message(row, p, m, hna, spot, position);
-    match counting {
-        Counting::Refused(f) => Heard::Refused(f),
-        Counting::Done(marks) => Heard::Counted(answer_counted(row, p, m, marks)),
-    }
+    let marks = count_message(row, p, m, hna, spot, position)?;
+    Ok(Heard::Counted(answer_counted(row, p, m, marks)))
 }

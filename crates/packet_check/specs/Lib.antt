@@ -1,3 +1,2 @@
--- What HNA entries are held to, and what is refused before them.
-pub mod Entries
+-- What is refused of a packet before its entries.
 pub mod Head

@@ -39,6 +39,7 @@ pub fn mask_at(hna: &[u8], k: usize) -> u8
 }
 
 // The entry at place k.
+#[tactic(auto, unfolding(wire::specs::Entries::entry_at, wire::specs::Entries::entry_of))]
 pub fn entry_at(hna: &[u8], k: usize) -> u64
     requires { k < entries hna.now }
     ensures { result ≡ entry_at hna.now k }

@@ -1,5 +1,5 @@
 // Packets written at the start of a lent output; the rest of it is untouched.
-ghost use Rattle.std.specs.Prelude.{◌≡◌, cond, ◌+◌, ◌≤◌, ◌<◌, length};
+ghost use Rattle.std.specs.Prelude.{◌≡◌, ◌+◌, ◌≤◌, ◌<◌, length};
 ghost use Rattle.lists.specs.Lists.{written_to};
 ghost use Rattle.wire.specs.Layout.{header_size, ttl_at};
 ghost use Rattle.wire.specs.Packet as P;
@@ -16,6 +16,7 @@ const DIRECT: u8 = 64;
 const UNNAMED: u8 = 64;
 
 // Writes these octets at the start of the output, and answers how many they are.
+#[tactic(auto, unfolding(lists::specs::Lists::written_to))]
 fn write_octets(from: &[u8], out: &mut [u8]) -> usize
     requires { length from.now ≤ length out.old }
     ensures count { result ≡ length from.now }
@@ -35,33 +36,31 @@ pub fn write_packet(out: &mut [u8], h: Header, hna: &[u8]) -> usize
     HEADER_SIZE + write_octets(hna, &mut out[HEADER_SIZE..])
 }
 
+#[tactic(auto, unfolding(wire::specs::Packet::is_u))]
+// One function a bit: with the bit as an argument a call would not say which it asks for.
 pub fn is_unidirectional(flags: u8) -> bool
     ensures { result ≡ P.is_u flags }
 {
     flags / UNIDIRECTIONAL % 2 == 1
 }
 
+#[tactic(auto, unfolding(wire::specs::Packet::is_d))]
 pub fn is_direct(flags: u8) -> bool
     ensures { result ≡ P.is_d flags }
 {
     flags / DIRECT % 2 == 1
 }
 
-// The value where a bit is set, else 0.
-fn flag(on: bool, value: u8) -> u8
-    ensures { (result ≡ cond on value 0) × (result ≤ value) }
-{
-    if on { value } else { 0 }
-}
-
 // The flags octet of the copy for the receiving interface.
+#[tactic(auto, unfolding(wire::specs::PassOn::flags_here, wire::specs::Packet::unnamed))]
 pub fn flags_here(direct: bool, bidirectional: bool, flags: u8) -> u8
     ensures { result ≡ O.flags_here direct bidirectional flags }
 {
-    flag(!bidirectional, UNIDIRECTIONAL) + flag(direct, DIRECT) + flags % UNNAMED
+    u8::from(!bidirectional) * UNIDIRECTIONAL + u8::from(direct) * DIRECT + flags % UNNAMED
 }
 
 // The flags octet of the copies for the other interfaces.
+#[tactic(auto, unfolding(wire::specs::PassOn::flags_elsewhere, wire::specs::Packet::unnamed))]
 pub fn flags_elsewhere(flags: u8) -> u8
     ensures { result ≡ O.flags_elsewhere flags }
 {

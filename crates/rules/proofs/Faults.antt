@@ -4,17 +4,16 @@ use mathlib.Core.Path.{◌≡◌, refl}
 use mathlib.Core.Bool.{Bool, true, false, ◌||◌, not}
 use mathlib.Core.Option.{Option, none, some}
 use mathlib.Core.List.{List, [], ◌∷◌, ◌++◌}
-use lib.Dec.{ltb, leb, eqb}
+use lib.Dec.{ltb, eqb}
 use lib.ListN.{length, get_or}
 use native.Mathlib.Omega.{arith}
-use borrow.Author.Tests.{leb-true}
 use Rattle.lists.specs.Lists.{maybe, all}
 use Rattle.lists.proofs.Tests.{both, and_left}
 use Rattle.wire.specs.declared.Fault.{Fault}
 use Rattle.wire.specs.Layout.{header_size, entry_size, packet_most, version_at}
 use Rattle.wire.specs.Packet.{octet, hna}
-use Rattle.wire.specs.Check.{placed, given, first_of, fault_of, size_fault, first_breaking, bad_mask, host_bits_set, hna_faults, hna_fault, packet_faults, packet_fault, written_fault}
-use Rattle.rules.specs.Calls.{is_rule_refusal, refusal_most}
+use Rattle.wire.specs.Check.{placed, given, first_of, size_fault, first_breaking, bad_mask, host_bits_set, hna_faults, hna_fault, packet_faults, packet_fault, written_fault}
+use Rattle.rules.specs.Calls.{is_rule_refusal}
 use Rattle.rules.specs.Rules.{unless}
 
 -- no fault in a list: none at each place
@@ -85,13 +84,3 @@ written-numbered e =
 pub hna-none : (v : ℕ) (p : List ℕ) → packet_fault v p ≡ none → (k : ℕ) → get_or (hna_faults (hna p)) k none ≡ none
 unfolding packet_fault hna_fault
 hna-none v p h = none-at (hna_faults (hna p)) (none-at (packet_faults v p) h 2)
-
--- the number 0 stands for no refusal
-pub no_number : (x : Option Fault) → numbered x ≡ true → (fault_of x).number ≡ 0 → x ≡ none
-no_number none h e = refl
-no_number (some f) h e = absurd (omega (arith, leb-true 2 f.number (and_left (leb 2 f.number) (leb f.number refusal_most) h)))
-
--- a number other than 0 is that of a refusal
-pub found_number : (x : Option Fault) → ((fault_of x).number ≡ 0 → ⊥) → x ≡ some (fault_of x)
-found_number none h = absurd (h refl)
-found_number (some f) h = refl

@@ -42,7 +42,7 @@ pub struct Ogm {
     pub time: u64,
 }
 
-// What counting is told of the settings: the window size W, and the tie.
+// What counting is told of the settings: the window size W, and the tie, the number that C gives.
 #[derive(Clone, Copy)]
 pub struct Policy {
     pub window: u64,
@@ -51,7 +51,7 @@ pub struct Policy {
 
 // What the best question answers. No route is all zeros.
 #[repr(C)]
-#[derive(Clone, Copy)]
+#[derive(Clone, Copy, Default)]
 pub struct Route {
     pub neighbour: u32,
     pub interface: u32,
@@ -61,7 +61,7 @@ pub struct Route {
 
 // A row of the list call: one held link. `best` is 1 or 0 and no bool, so that a caller may lend rows that hold anything.
 #[repr(C)]
-#[derive(Clone, Copy)]
+#[derive(Clone, Copy, Default)]
 pub struct LinkRow {
     pub neighbour: u32,
     pub interface: u32,

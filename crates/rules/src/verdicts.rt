@@ -1,16 +1,12 @@
-// RULES 6.1: the verdicts. include/batman.h has them by the same names for C.
-pub const OWN_SENDER: u64 = 20;
-
-pub const OWN_BROADCAST: u64 = 21;
-
-pub const ECHO: u64 = 22;
-
-pub const OWN_ORIGINATOR: u64 = 23;
-
-pub const UNIDIRECTIONAL: u64 = 24;
-
-pub const KEPT: u64 = 25;
-
-pub const PASSED_ON: u64 = 26;
-
-pub const STALE: u64 = 27;
+// RULES 6.1: the verdicts, each with its number. include/batman.h has them for C by the same names in capitals.
+#[derive(Clone, Copy, Debug, PartialEq, Eq)]
+pub enum Verdict {
+    OwnSender = 20,
+    OwnBroadcast = 21,
+    Echo = 22,
+    OwnOriginator = 23,
+    Unidirectional = 24,
+    Kept = 25,
+    PassedOn = 26,
+    Stale = 27,
+}

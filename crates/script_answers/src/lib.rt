@@ -1,177 +1,204 @@
-// Answers as lines of text: each function puts its lines behind the `used` octets of a text, and answers how many are then
-// used.
+// Answers as lines of text, each with its line end.
 #![tactic(auto)]
 
-use rules::limits::{LINKS_MOST, PACKETS_MOST};
-use rules::verdicts::PASSED_ON;
-use rules::{Asked, LinkRow, Located, Received, Route, Written};
-use script_text::{put_line_end, put_number, put_octets, put_word};
-
-// The most rows that a list call fills.
-const ROWS_MOST: usize = LINKS_MOST as usize;
-
-// The most packets that a burst answers for.
-const PACKETS: usize = PACKETS_MOST as usize;
-
-// A word and a number.
-pub fn put_one(text: &mut [u8], used: usize, word: &[u8], number: u64) -> usize {
-    let a = put_word(text, used, word);
-    let b = put_number(text, a, number);
-    put_line_end(text, b)
-}
-
-// The first two numbers of a line, behind its word.
-fn put_begun(text: &mut [u8], used: usize, word: &[u8], first: u64, second: u64) -> usize {
-    let a = put_word(text, used, word);
-    let b = put_number(text, a, first);
-    put_number(text, b, second)
-}
-
-// A word and two numbers.
-pub fn put_two(text: &mut [u8], used: usize, word: &[u8], first: u64, second: u64) -> usize {
-    let a = put_begun(text, used, word, first, second);
-    put_line_end(text, a)
-}
+use rules::verdicts::Verdict;
+use rules::{Asked, LinkRow, Located, Received, Route, Swept, Written};
+use script_text::Hex;
+use std::fmt::{self, Display, Formatter, Write};
 
 // Neighbour, interface, count and window of a route.
-fn put_route(text: &mut [u8], used: usize, route: Route) -> usize {
-    let a = put_number(text, used, route.neighbour as u64);
-    let b = put_number(text, a, route.interface as u64);
-    let c = put_number(text, b, route.count as u64);
-    put_number(text, c, route.window as u64)
-}
+#[derive(Clone, Copy)]
+struct RouteText<'a>(&'a Route);
 
-// How many octets of a packet of `length` octets are in the output.
-fn copied(number: u64, length: usize) -> u64 {
-    if number == PASSED_ON {
-        length as u64
-    } else {
-        0
+impl Display for RouteText<'_> {
+    fn fmt<W: Write>(&self, f: &mut Formatter<W>) -> fmt::Result {
+        let Route {
+            neighbour,
+            interface,
+            count,
+            window,
+        } = *self.0;
+        write!(f, "{neighbour} {interface} {count} {window}")
     }
 }
 
 // What is answered to a packet, alone or of a burst: number, place, the flags for the other interfaces, and the route.
-fn put_verdict(text: &mut [u8], used: usize, word: &[u8], r: Received) -> usize {
-    let a = put_begun(text, used, word, r.number, r.place);
-    let b = put_number(text, a, r.flags as u64);
-    put_route(text, b, r.route)
+#[derive(Clone, Copy)]
+struct ReceivedText<'a>(&'a Received);
+
+impl Display for ReceivedText<'_> {
+    fn fmt<W: Write>(&self, f: &mut Formatter<W>) -> fmt::Result {
+        let Received {
+            number,
+            place,
+            route,
+            flags,
+        } = *self.0;
+        let route = RouteText(&route);
+        write!(f, "{number} {place} {flags} {route}")
+    }
+}
+
+// The first `length` octets of an output.
+fn first(out: &[u8], length: usize) -> Hex<'_> {
+    Hex(&out[..length.min(out.len())])
 }
 
 // The answer to a received packet of `length` octets, with the output as it was left.
-pub fn put_received(text: &mut [u8], used: usize, r: Received, length: usize, out: &[u8]) -> usize {
-    let a = put_verdict(text, used, b"receive", r);
-    let b = put_octets(text, a, out, copied(r.number, length));
-    put_line_end(text, b)
+#[derive(Clone, Copy)]
+pub struct ReceiveLine<'a> {
+    pub received: &'a Received,
+    pub length: usize,
+    pub out: &'a [u8],
 }
 
-// The answer to a burst of `n` packets, with the output as it was left.
-pub fn put_burst(
-    text: &mut [u8],
-    used: usize,
-    number: u64,
-    n: u64,
-    written: u64,
-    out: &[u8],
-) -> usize {
-    let a = put_begun(text, used, b"burst", number, n);
-    let b = put_number(text, a, written);
-    let c = put_octets(text, b, out, written);
-    put_line_end(text, c)
-}
-
-// A packet of a burst.
-fn put_packet(text: &mut [u8], used: usize, r: Received) -> usize {
-    let a = put_verdict(text, used, b"packet", r);
-    put_line_end(text, a)
-}
-
-// The first `n` packets of a burst.
-pub fn put_packets(text: &mut [u8], used: usize, rows: [Received; PACKETS], n: usize) -> usize {
-    let mut at = used;
-    let mut i = 0;
-    while i < PACKETS {
-        if i == n {
-            break;
-        }
-        at = put_packet(text, at, rows[i]);
-        i += 1;
+impl Display for ReceiveLine<'_> {
+    fn fmt<W: Write>(&self, f: &mut Formatter<W>) -> fmt::Result {
+        let passed_on = self.received.number == Verdict::PassedOn as u64;
+        let copied = if passed_on { self.length } else { 0 };
+        let octets = first(self.out, copied);
+        let received = ReceivedText(self.received);
+        writeln!(f, "receive {received} {octets}")
     }
-    at
 }
 
-// How many octets of an own packet are in the output.
-fn sent(w: Written) -> u64 {
-    if w.number == 0 { w.length } else { 0 }
+// The answer to a burst: its number and how many octets were written, with the output as it was left, and the answers to its packets.
+#[derive(Clone, Copy)]
+pub struct BurstLines<'a> {
+    pub number: u64,
+    pub packets: &'a [Received],
+    pub written: u64,
+    pub out: &'a [u8],
+}
+
+impl Display for BurstLines<'_> {
+    fn fmt<W: Write>(&self, f: &mut Formatter<W>) -> fmt::Result {
+        let number = self.number;
+        let filled = self.packets.len();
+        let written = self.written;
+        let octets = first(self.out, written as usize);
+        writeln!(f, "burst {number} {filled} {written} {octets}")?;
+        for packet in self.packets {
+            let packet = ReceivedText(packet);
+            writeln!(f, "packet {packet}")?;
+        }
+        Ok(())
+    }
 }
 
 // The answer to an own packet, with the output as it was left.
-pub fn put_written(text: &mut [u8], used: usize, w: Written, out: &[u8]) -> usize {
-    let a = put_begun(text, used, b"own", w.number, w.place);
-    let b = put_number(text, a, w.length);
-    let c = put_number(text, b, w.sequence as u64);
-    let d = put_octets(text, c, out, sent(w));
-    put_line_end(text, d)
+#[derive(Clone, Copy)]
+pub struct OwnLine<'a> {
+    pub written: &'a Written,
+    pub out: &'a [u8],
+}
+
+impl Display for OwnLine<'_> {
+    fn fmt<W: Write>(&self, f: &mut Formatter<W>) -> fmt::Result {
+        let Written {
+            number,
+            place,
+            length,
+            sequence,
+        } = *self.written;
+        let sent = if number == 0 { length as usize } else { 0 };
+        let octets = first(self.out, sent);
+        writeln!(f, "own {number} {place} {length} {sequence} {octets}")
+    }
+}
+
+// The answer to a sweep.
+#[derive(Clone, Copy)]
+pub struct SweepLine(pub Swept);
+
+impl Display for SweepLine {
+    fn fmt<W: Write>(&self, f: &mut Formatter<W>) -> fmt::Result {
+        let Swept { number, removed } = self.0;
+        writeln!(f, "sweep {number} {removed}")
+    }
 }
 
 // The answer to the best question.
-pub fn put_asked(text: &mut [u8], used: usize, r: Asked) -> usize {
-    let a = put_word(text, used, b"best");
-    let b = put_number(text, a, r.number);
-    let c = put_route(text, b, r.route);
-    put_line_end(text, c)
+#[derive(Clone, Copy)]
+pub struct BestLine(pub Asked);
+
+impl Display for BestLine {
+    fn fmt<W: Write>(&self, f: &mut Formatter<W>) -> fmt::Result {
+        let Asked { number, route } = self.0;
+        let route = RouteText(&route);
+        writeln!(f, "best {number} {route}")
+    }
+}
+
+// The answer to the list call, with the rows that it filled.
+#[derive(Clone, Copy)]
+pub struct ListLines<'a> {
+    pub number: u64,
+    pub rows: &'a [LinkRow],
+}
+
+impl Display for ListLines<'_> {
+    fn fmt<W: Write>(&self, f: &mut Formatter<W>) -> fmt::Result {
+        let number = self.number;
+        let filled = self.rows.len();
+        writeln!(f, "list {number} {filled}")?;
+        for row in self.rows {
+            let LinkRow {
+                neighbour,
+                interface,
+                count,
+                window,
+                best,
+            } = *row;
+            writeln!(f, "row {neighbour} {interface} {count} {window} {best}")?;
+        }
+        Ok(())
+    }
 }
 
 // The answer to the lookup.
-pub fn put_located(text: &mut [u8], used: usize, r: Located) -> usize {
-    let a = put_begun(text, used, b"lookup", r.number, r.found as u64);
-    let b = put_number(text, a, r.originator as u64);
-    let c = put_number(text, b, r.network as u64);
-    let d = put_number(text, c, r.mask as u64);
-    put_line_end(text, d)
+#[derive(Clone, Copy)]
+pub struct LookupLine(pub Located);
+
+impl Display for LookupLine {
+    fn fmt<W: Write>(&self, f: &mut Formatter<W>) -> fmt::Result {
+        let Located {
+            number,
+            found,
+            originator,
+            network,
+            mask,
+        } = self.0;
+        writeln!(f, "lookup {number} {found} {originator} {network} {mask}")
+    }
 }
 
-// A row of the list call.
-fn put_row(text: &mut [u8], used: usize, row: LinkRow) -> usize {
-    let a = put_word(text, used, b"row");
-    let route = Route {
-        neighbour: row.neighbour,
-        interface: row.interface,
-        count: row.count,
-        window: row.window,
-    };
-    let b = put_route(text, a, route);
-    let c = put_number(text, b, row.best as u64);
-    put_line_end(text, c)
-}
+// Each cell that is not 0.
+#[derive(Clone, Copy)]
+pub struct CellLines<'a>(pub &'a [u64]);
 
-// The first `n` rows of the list call.
-pub fn put_rows(text: &mut [u8], used: usize, rows: [LinkRow; ROWS_MOST], n: usize) -> usize {
-    let mut at = used;
-    let mut i = 0;
-    while i < ROWS_MOST {
-        if i == n {
-            break;
+impl Display for CellLines<'_> {
+    fn fmt<W: Write>(&self, f: &mut Formatter<W>) -> fmt::Result {
+        for (index, &value) in self.0.iter().enumerate() {
+            if value != 0 {
+                writeln!(f, "cell {index} {value}")?;
+            }
         }
-        at = put_row(text, at, rows[i]);
-        i += 1;
+        Ok(())
     }
-    at
 }
 
-// A cell, unless it is 0.
-fn put_cell(text: &mut [u8], used: usize, index: usize, value: u64) -> usize {
-    if value == 0 {
-        return used;
-    }
-    put_two(text, used, b"cell", index as u64, value)
+// A word and a number.
+#[derive(Clone, Copy)]
+pub struct NumberLine<'a> {
+    pub word: &'a str,
+    pub number: u64,
 }
 
-pub fn put_cells(text: &mut [u8], used: usize, cells: &[u64]) -> usize {
-    let mut at = used;
-    let mut i = 0;
-    while i < cells.len() {
-        at = put_cell(text, at, i, cells[i]);
-        i += 1;
+impl Display for NumberLine<'_> {
+    fn fmt<W: Write>(&self, f: &mut Formatter<W>) -> fmt::Result {
+        let word = self.word;
+        let number = self.number;
+        writeln!(f, "{word} {number}")
     }
-    at
 }

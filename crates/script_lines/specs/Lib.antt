@@ -1,1 +1,2 @@
-pub mod Bursts
+-- What a line that is read keeps to.
+pub mod Requests

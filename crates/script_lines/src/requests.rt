@@ -1,15 +1,14 @@
 // A line as a call with its arguments.
-ghost use Rattle.std.specs.Prelude.{◌≡◌, ◌≤◌, length};
-ghost use Rattle.script_numbers.specs.Numbers.{numbers_most};
-ghost use Rattle.script_octets.specs.Octets.{Fits};
+ghost use Rattle.std.specs.Prelude.{◌≡◌, IfOk, IfSome};
+ghost use Rattle.script_words.specs.Words.{next_of};
+ghost use Rattle.script_lines.specs.Requests.{ReceiveFits, OwnFits, RequestFits, asks_nothing};
 
-use crate::names::{Call, line_of};
-use crate::tables::{TIE, TIE_DEFAULT};
-use script_numbers::{
-    MOST_8, MOST_16, MOST_32, MOST_64, NUMBERS_MOST, Numbers, only_numbers, read_numbers,
-};
+use crate::bursts::Burst;
+use crate::tables::Table;
+use script_numbers::{MOST_8, MOST_16, MOST_32, MOST_64, only_numbers, read_numbers};
 use script_octets::last_octets;
-use script_words::{next_word, same};
+use script_words::{is_finished, next_word};
+use std::alloc::{AllocError, Global};
 
 // The most cells that are lent, the most octets of a packet, of HNA entries, and of an output, and the most rows that are
 // lent to the list call.
@@ -21,170 +20,209 @@ pub const OUTPUT_MOST: usize = 16384;
 
 const ROWS_MOST: u64 = 16;
 
-// The call that a line names, whether it is a burst, and where the name ends.
-#[derive(Clone, Copy)]
-pub struct Named {
-    pub call: Call,
-    pub burst: bool,
-    pub end: usize,
+const COMMENT: u8 = b'#';
+
+// A received packet.
+#[derive(Drop)]
+pub struct Receive {
+    pub interface: u64,
+    pub sender: u32,
+    pub time: u64,
+    pub output: usize,
+    pub packet: Vec<u8>,
 }
 
-// A call, its numbers, and how many octets it carries.
-#[derive(Clone, Copy)]
-pub struct Request {
-    pub call: Call,
-    pub value: [u64; NUMBERS_MOST],
-    pub octets: usize,
-}
-
-// The call that the first word of a line names.
-pub fn name_of(line: &[u8]) -> Named
-    ensures { result.end ≤ length line.now }
-{
-    let word = next_word(line, 0);
-    let start = word.start;
-    let end = word.end;
-    let call = line_of(&line[start..end]);
-    Named {
-        call,
-        burst: same(&line[start..end], b"burst"),
-        end,
+impl Receive {
+    fn read(alloc: Global, text: &[u8]) -> Result<Option<Self>, AllocError>
+        ensures { IfOk result (λ r. IfSome r ReceiveFits) }
+    {
+        let limits = [MOST_64, MOST_32, MOST_64, OUTPUT_MOST as u64];
+        let Some(read) = read_numbers(text, &limits) else {
+            return Ok(None);
+        };
+        // In a step of its own: an array that is taken apart straight out of an `Option` gets no proof.
+        let ([interface, sender, time, output], rest) = read;
+        let Some(packet) = last_octets(alloc, rest, PACKET_MOST)? else {
+            return Ok(None);
+        };
+        Ok(Some(Receive {
+            interface,
+            sender: sender as u32,
+            time,
+            output: output as usize,
+            packet,
+        }))
     }
 }
 
-// A line without arguments.
-fn bare(call: Call) -> Request
-    ensures { result.octets ≡ 0 }
-{
-    Request {
-        call,
-        value: [0u64; NUMBERS_MOST],
-        octets: 0,
+// An own packet.
+#[derive(Drop)]
+pub struct Own {
+    pub interface: u64,
+    pub time: u64,
+    pub ttl: u8,
+    pub flags: u8,
+    pub port: u16,
+    pub output: usize,
+    pub hna: Vec<u8>,
+}
+
+impl Own {
+    fn read(alloc: Global, text: &[u8]) -> Result<Option<Self>, AllocError>
+        ensures { IfOk result (λ r. IfSome r OwnFits) }
+    {
+        let limits = [
+            MOST_64,
+            MOST_64,
+            MOST_8,
+            MOST_8,
+            MOST_16,
+            OUTPUT_MOST as u64,
+        ];
+        let Some(read) = read_numbers(text, &limits) else {
+            return Ok(None);
+        };
+        let ([interface, time, ttl, flags, port, output], rest) = read;
+        let Some(hna) = last_octets(alloc, rest, PACKET_MOST)? else {
+            return Ok(None);
+        };
+        Ok(Some(Own {
+            interface,
+            time,
+            ttl: ttl as u8,
+            flags: flags as u8,
+            port: port as u16,
+            output: output as usize,
+            hna,
+        }))
     }
 }
 
-fn one(line: &[u8], at: usize, most: u64) -> Numbers
-    requires { at ≤ length line.now }
-{
-    let limits = [most];
-    only_numbers(line, at, &limits)
+// What a line asks for: a call with its arguments, or something of the program itself (`Cells`, `Poke` and `Dump`).
+#[derive(Drop)]
+pub enum Request {
+    Receive(Receive),
+    Burst(Burst),
+    Own(Own),
+    Sweep { time: u64 },
+    Best { originator: u32 },
+    List { originator: u32, rows: usize },
+    Lookup { address: u32 },
+    Check { version: u64, packet: Vec<u8> },
+    Make(Table),
+    Size { capacity: u64 },
+    Cells { lent: usize },
+    Poke { index: usize, value: u64 },
+    Dump,
 }
 
-fn two(line: &[u8], at: usize, first: u64, second: u64) -> Numbers
-    requires { at ≤ length line.now }
+fn check(alloc: Global, text: &[u8]) -> Result<Option<Request>, AllocError>
+    ensures { IfOk result (λ r. IfSome r RequestFits) }
 {
-    let limits = [first, second];
-    only_numbers(line, at, &limits)
+    let Some(read) = read_numbers(text, &[MOST_64]) else {
+        return Ok(None);
+    };
+    let ([version], rest) = read;
+    let Some(packet) = last_octets(alloc, rest, PACKET_MOST)? else {
+        return Ok(None);
+    };
+    Ok(Some(Request::Check { version, packet }))
 }
 
-// Five settings, how many interfaces are in use, the four interface rows, and the tie, which may be left out: it is then the default.
-fn make_numbers(line: &[u8], at: usize) -> Numbers
-    requires { at ≤ length line.now }
+fn sweep(text: &[u8]) -> Option<Request>
+    ensures { IfSome result RequestFits }
 {
-    let limits = [
-        MOST_64, MOST_64, MOST_64, MOST_64, MOST_64, MOST_64, MOST_32, MOST_32, MOST_16, MOST_32,
-        MOST_32, MOST_16, MOST_32, MOST_32, MOST_16, MOST_32, MOST_32, MOST_16, MOST_64,
-    ];
-    let named = only_numbers(line, at, &limits);
-    if named.good {
-        return named;
-    }
-    let n = only_numbers(line, at, &limits[..TIE]);
-    let mut value = n.value;
-    value[TIE] = TIE_DEFAULT;
-    Numbers {
+    let [time] = only_numbers(text, &[MOST_64])?;
+    Some(Request::Sweep { time })
+}
+
+fn best(text: &[u8]) -> Option<Request>
+    ensures { IfSome result RequestFits }
+{
+    let [originator] = only_numbers(text, &[MOST_32])?;
+    Some(Request::Best {
+        originator: originator as u32,
+    })
+}
+
+fn list(text: &[u8]) -> Option<Request>
+    ensures { IfSome result RequestFits }
+{
+    let [originator, rows] = only_numbers(text, &[MOST_32, ROWS_MOST])?;
+    Some(Request::List {
+        originator: originator as u32,
+        rows: rows as usize,
+    })
+}
+
+fn lookup(text: &[u8]) -> Option<Request>
+    ensures { IfSome result RequestFits }
+{
+    let [address] = only_numbers(text, &[MOST_32])?;
+    Some(Request::Lookup {
+        address: address as u32,
+    })
+}
+
+fn size(text: &[u8]) -> Option<Request>
+    ensures { IfSome result RequestFits }
+{
+    let [capacity] = only_numbers(text, &[MOST_64])?;
+    Some(Request::Size { capacity })
+}
+
+fn cells(text: &[u8]) -> Option<Request>
+    ensures { IfSome result RequestFits }
+{
+    let [lent] = only_numbers(text, &[CELLS_MOST as u64])?;
+    Some(Request::Cells {
+        lent: lent as usize,
+    })
+}
+
+fn poke(text: &[u8]) -> Option<Request>
+    ensures { IfSome result RequestFits }
+{
+    let [index, value] = only_numbers(text, &[CELLS_MOST as u64 - 1, MOST_64])?;
+    Some(Request::Poke {
+        index: index as usize,
         value,
-        end: n.end,
-        good: n.good,
-    }
+    })
 }
 
-// No numbers. They are good where no word is left.
-fn no_numbers(line: &[u8], at: usize) -> Numbers
-    requires { at ≤ length line.now }
+fn dump(text: &[u8]) -> Option<Request>
+    ensures { IfSome result RequestFits }
 {
-    let limits = [0u64; 0];
-    only_numbers(line, at, &limits)
+    is_finished(text).then_some(Request::Dump)
 }
 
-// The numbers of a call that carries no octets.
-fn numbers(call: Call, line: &[u8], at: usize) -> Numbers
-    requires { at ≤ length line.now }
+// Whether a line asks for nothing: it is empty or a comment.
+pub fn is_passed_over(line: &[u8]) -> bool
+    ensures { result ≡ asks_nothing (next_of line.now) }
 {
-    match call {
-        Call::Sweep => one(line, at, MOST_64),
-        Call::Best => one(line, at, MOST_32),
-        Call::List => two(line, at, MOST_32, ROWS_MOST),
-        Call::Lookup => one(line, at, MOST_32),
-        Call::Make => make_numbers(line, at),
-        Call::Size => one(line, at, MOST_64),
-        Call::Cells => one(line, at, CELLS_MOST as u64),
-        Call::Poke => two(line, at, CELLS_MOST as u64 - 1, MOST_64),
-        _ => no_numbers(line, at),
-    }
+    let (word, _) = next_word(line);
+    matches!(word, [] | [COMMENT, ..])
 }
 
-// The call, unless its arguments could not be read.
-fn if_good(call: Call, good: bool) -> Call {
-    if good { call } else { Call::Unread }
-}
-
-// A call that carries no octets.
-fn of_numbers(call: Call, line: &[u8], at: usize) -> Request
-    requires { at ≤ length line.now }
-    ensures { result.octets ≡ 0 }
+// A line as a request: `None` for a line that cannot be read.
+pub fn read(alloc: Global, line: &[u8]) -> Result<Option<Request>, AllocError>
+    ensures { IfOk result (λ r. IfSome r RequestFits) }
 {
-    let n = numbers(call, line, at);
-    let value = n.value;
-    Request {
-        call: if_good(call, n.good),
-        value,
-        octets: 0,
-    }
-}
-
-// A call whose numbers have these limits, and then octets.
-fn of_octets(call: Call, line: &[u8], at: usize, limits: &[u64], packet: &mut [u8]) -> Request
-    requires { (at ≤ length line.now) × (length limits.now ≤ numbers_most) }
-    ensures { Fits packet.new result.octets }
-{
-    let n = read_numbers(line, at, limits);
-    let p = last_octets(line, n.end, packet);
-    let value = n.value;
-    Request {
-        call: if_good(if_good(call, n.good), p.good),
-        value,
-        octets: p.count,
-    }
-}
-
-// A call with its arguments, which begin from `at` on. The octets that it carries are put into the packet.
-pub fn read(call: Call, line: &[u8], at: usize, packet: &mut [u8]) -> Request
-    requires { at ≤ length line.now }
-    ensures { Fits packet.new result.octets }
-{
-    match call {
-        Call::Receive => {
-            let limits = [MOST_64, MOST_32, MOST_64, OUTPUT_MOST as u64];
-            of_octets(call, line, at, &limits, packet)
-        }
-        Call::Own => {
-            let limits = [
-                MOST_64,
-                MOST_64,
-                MOST_8,
-                MOST_8,
-                MOST_16,
-                OUTPUT_MOST as u64,
-            ];
-            of_octets(call, line, at, &limits, packet)
-        }
-        Call::Check => {
-            let limits = [MOST_64];
-            of_octets(call, line, at, &limits, packet)
-        }
-        Call::Nothing => bare(call),
-        Call::Unread => bare(call),
-        _ => of_numbers(call, line, at),
+    let (word, rest) = next_word(line);
+    match word {
+        b"receive" => Ok(Receive::read(alloc, rest)?.map(Request::Receive)),
+        b"burst" => Ok(Burst::read(alloc, rest)?.map(Request::Burst)),
+        b"own" => Ok(Own::read(alloc, rest)?.map(Request::Own)),
+        b"sweep" => Ok(sweep(rest)),
+        b"best" => Ok(best(rest)),
+        b"list" => Ok(list(rest)),
+        b"lookup" => Ok(lookup(rest)),
+        b"check" => check(alloc, rest),
+        b"make" => Ok(Table::read(rest).map(Request::Make)),
+        b"size" => Ok(size(rest)),
+        b"cells" => Ok(cells(rest)),
+        b"poke" => Ok(poke(rest)),
+        b"dump" => Ok(dump(rest)),
+        _ => Ok(None),
     }
 }

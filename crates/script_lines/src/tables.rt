@@ -1,48 +1,68 @@
-// What make is given: its numbers as settings and interface rows.
-ghost use Rattle.std.specs.Prelude.{◌+◌, ◌<◌};
-ghost use Rattle.script_numbers.specs.Numbers.{numbers_most};
+// What make is given: the settings, how many interfaces are in use, and the four interface rows.
+ghost use Rattle.std.specs.Prelude.{◌≡◌, [], Some};
+ghost use Rattle.script_words.specs.Words.{from_word};
 
 use rules::limits::PRESENT_STAYS;
 use rules::{Interface, Settings};
-use script_numbers::{NUMBERS_MOST, address, sequence};
+use script_numbers::{MOST_16, MOST_32, MOST_64, only_numbers, read_numbers};
+use script_words::is_finished;
 
-// How many numbers stand before the interface rows, and how many a row has.
-const ROWS_FROM: usize = 6;
+// The tie where it is left out.
+const TIE_DEFAULT: u64 = PRESENT_STAYS;
 
-const ROW: usize = 3;
-
-// The place of the tie behind the four rows, and what it is where it is left out.
-pub const TIE: usize = ROWS_FROM + 4 * ROW;
-
-pub const TIE_DEFAULT: u64 = PRESENT_STAYS;
-
-pub fn settings_of(v: &[u64; NUMBERS_MOST]) -> Settings {
-    Settings {
-        version: v[0],
-        window: v[1],
-        timeout: v[2],
-        purge: v[3],
-        capacity: v[4],
-        tie: v[TIE],
-    }
+#[derive(Clone, Copy)]
+pub struct Table {
+    pub settings: Settings,
+    pub used: u64,
+    pub rows: [Interface; 4],
 }
 
-// The interface row whose numbers begin at `from`.
-fn row_of(v: &[u64; NUMBERS_MOST], from: usize) -> Interface
-    requires { from + 2 < numbers_most }
+// The interface row with which a text begins, and what stands behind it.
+fn read_row(text: &[u8]) -> Option<(Interface, &[u8])> {
+    let ([own, broadcast, first], rest) = read_numbers(text, &[MOST_32, MOST_32, MOST_16])?;
+    let row = Interface {
+        own: own as u32,
+        broadcast: broadcast as u32,
+        first: first as u16,
+    };
+    Some((row, rest))
+}
+
+// The tie, the last number of a line, which may be left out.
+fn read_tie(text: &[u8]) -> Option<u64>
+    ensures { from_word text.now ≡ [] → result ≡ Some TIE_DEFAULT }
 {
-    Interface {
-        own: address(v[from]),
-        broadcast: address(v[from + 1]),
-        first: sequence(v[from + 2]),
+    if is_finished(text) {
+        return Some(TIE_DEFAULT);
     }
+    let [tie] = only_numbers(text, &[MOST_64])?;
+    Some(tie)
 }
 
-pub fn rows_of(v: &[u64; NUMBERS_MOST]) -> [Interface; 4] {
-    [
-        row_of(v, ROWS_FROM),
-        row_of(v, ROWS_FROM + ROW),
-        row_of(v, ROWS_FROM + 2 * ROW),
-        row_of(v, ROWS_FROM + 3 * ROW),
-    ]
+impl Table {
+    // A table, whose numbers are all that a text has.
+    pub fn read(text: &[u8]) -> Option<Self> {
+        let ([version, window, timeout, purge, capacity, used], rest) = read_numbers(
+            text,
+            &[MOST_64; 6],
+        )?;
+        let (first, rest) = read_row(rest)?;
+        let (second, rest) = read_row(rest)?;
+        let (third, rest) = read_row(rest)?;
+        let (fourth, rest) = read_row(rest)?;
+        let settings = Settings {
+            version,
+            window,
+            timeout,
+            purge,
+            capacity,
+            tie: read_tie(rest)?,
+        };
+        let rows = [first, second, third, fourth];
+        Some(Table {
+            settings,
+            used,
+            rows,
+        })
+    }
 }

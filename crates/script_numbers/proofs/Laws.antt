@@ -1,56 +1,28 @@
--- A digit more, from the tests of the code, and a turn of the loop over a word's digits. Assumes nothing.
-use mathlib.Core.Path.{◌≡◌, refl, sym, ap, ◌∙◌}
-use mathlib.Core.Bool.{Bool, true, false, cond}
-use mathlib.Core.List.{List, [], ◌∷◌}
-use mathlib.Core.Logic.{◌⊎◌, inl, inr}
-use Prim.Native.Nat.{ℕ, suc, ◌+◌, ◌-◌, ◌≤◌, ◌<◌}
-use native.Mathlib.Omega.{arith}
-use native.Mathlib.Numerals.{add-one}
-use lib.ListN.{length, take, drop, get_or, set}
-use lib.Seq.{drop-cons, drop-length, get_or-set_same, get_or-set_other}
-use borrow.Author.Count.{below_more}
-use borrow.Author.Tests.{le-leb, lt-leb}
-use Rattle.script_numbers.specs.declared.Number.{Number}
-use Rattle.script_numbers.specs.declared.Number.TheVariants.{Is, Bad}
-use Rattle.script_numbers.specs.Numbers.{digit0, digit9, more, is_next, with_digit, decimal_from, decimal, number_at, ReadNumbers, OnlyNumbers}
-use Rattle.script_numbers.specs.declared.Numbers.{Numbers}
-use Rattle.script_words.specs.Words.{from_word, next_of, after_next, after_words, NextWord}
-use Rattle.script_words.proofs.Laws.{word_between}
+-- A turn of the loop over a word's digits. Assumes nothing.
+use Rattle.std.proofs.Common.{◌≡◌, ℕ, suc, ◌+◌, ◌≤◌, ◌<◌, ◌&&◌, leb, leb-true, Bool, true, false, cond, List, [], ◌∷◌, ◌++◌, All, length, drop, get_or, set, refl, sym, ap, ◌∙◌, arith, Option, Some, None, drop-cons, add-one, below_more, get_or-set_same, get_or-set_other}
+use Rattle.std.proofs.lemmas.Grind.{common_steps}
+use lib.Seq.{drop-length}
+use Rattle.script_words.specs.Words.{next_of, after_next, after_words, word_at}
+use Rattle.script_numbers.specs.Numbers.{digit0, digit9, more, is_next, with_digit, decimal_from, decimal}
 
-module _ (most n d : ℕ) where
-  pub below_digits : d < digit0 → Bad ≡ with_digit most n d
-  unfolding with_digit
-  below_digits h = rw (lt-leb digit0 d h)
-
-  pub above_digits : digit9 < d → Bad ≡ with_digit most n d
-  unfolding with_digit
-  above_digits h = rw (le-leb digit0 d (omega arith), lt-leb d digit9 h)
-
-  pub above_most : digit0 ≤ d → d ≤ digit9 → most < more n d → Bad ≡ with_digit most n d
-  unfolding with_digit
-  above_most h k l = rw (le-leb digit0 d h, le-leb d digit9 k, lt-leb (more n d) most l)
-
-  pub one_more : digit0 ≤ d → d ≤ digit9 → more n d ≤ most → Is (more n d) ≡ with_digit most n d
-  unfolding with_digit
-  one_more h k l = rw (le-leb digit0 d h, le-leb d digit9 k, le-leb (more n d) most l)
-
-  goes_on : (k : ℕ) (ds : List ℕ) → Is k ≡ with_digit most n d → decimal_from most n (d ∷ ds) ≡ decimal_from most k ds
+module _ (most n d : ℕ) (ds : List ℕ) where
+  goes_on : (k : ℕ) → Some k ≡ with_digit most n d → decimal_from most n (d ∷ ds) ≡ decimal_from most k ds
   unfolding with_digit decimal_from
-  goes_on k ds e = go (is_next most n d) e
+  goes_on k e = go (is_next most n d) e
     where
-      go : (b : Bool) → Is k ≡ cond b (Is (more n d)) Bad → cond b (decimal_from most (more n d) ds) Bad ≡ decimal_from most k ds
+      go : (b : Bool) → Some k ≡ cond b (Some (more n d)) None → cond b (decimal_from most (more n d) ds) None ≡ decimal_from most k ds
       go true q = let h : more n d ≡ k = cc in ap (λ (m : ℕ). decimal_from most m ds) h
       go false q = cc
 
-  stops : (ds : List ℕ) → Bad ≡ with_digit most n d → decimal_from most n (d ∷ ds) ≡ Bad
+  stops : None ≡ with_digit most n d → decimal_from most n (d ∷ ds) ≡ None
   unfolding with_digit decimal_from
-  stops ds e = go (is_next most n d) e
+  stops e = go (is_next most n d) e
     where
-      go : (b : Bool) → Bad ≡ cond b (Is (more n d)) Bad → cond b (decimal_from most (more n d) ds) Bad ≡ Bad
+      go : (b : Bool) → None ≡ cond b (Some (more n d)) None → cond b (decimal_from most (more n d) ds) None ≡ None
       go true q = cc
       go false q = refl
 
-pub none_read : (most : ℕ) (w : List ℕ) → length w ≡ 0 → Bad ≡ decimal most w
+pub none_read : (most : ℕ) (w : List ℕ) → length w ≡ 0 → None ≡ decimal most w
 unfolding decimal
 none_read most [] e = refl
 none_read most (x ∷ xs) e = absurd (omega arith)
@@ -61,44 +33,61 @@ reading most [] h = absurd (h refl)
 reading most (x ∷ xs) h = refl
 
 module _ (most n : ℕ) (w : List ℕ) (i : ℕ) (l : i < length w) where
-  pub digit_read : (k : ℕ) → Is k ≡ with_digit most n (get_or w i 0) → decimal_from most n (drop i w) ≡ decimal_from most k (drop (i + 1) w)
-  digit_read k e = rw (add-one i, drop-cons w i 0 l) (goes_on most n (get_or w i 0) k (drop (suc i) w) e)
+  pub digit_read : (k : ℕ) → Some k ≡ with_digit most n (get_or w i 0) → decimal_from most n (drop i w) ≡ decimal_from most k (drop (i + 1) w)
+  digit_read k e = rw (add-one i, drop-cons w i 0 l) (goes_on most n (get_or w i 0) (drop (suc i) w) k e)
 
-  pub digit_bad : Bad ≡ with_digit most n (get_or w i 0) → decimal_from most n (drop i w) ≡ Bad
+  pub digit_bad : None ≡ with_digit most n (get_or w i 0) → decimal_from most n (drop i w) ≡ None
   digit_bad e = rw (drop-cons w i 0 l) (stops most n (get_or w i 0) (drop (suc i) w) e)
 
-pub all_read : (most n : ℕ) (w : List ℕ) (i : ℕ) → i ≡ length w → decimal_from most n (drop i w) ≡ Is n
+pub all_read : (most n : ℕ) (w : List ℕ) (i : ℕ) → i ≡ length w → decimal_from most n (drop i w) ≡ Some n
 unfolding decimal_from
 all_read most n w i e = rw (e, drop-length w)
 
--- ---- the numbers of a line
+-- ---- one word more of a line
 
-module _ (line limits xs : List ℕ) (end start stop i : ℕ) (w : NextWord line end start stop) (e : drop end line ≡ after_words i xs) where
-  pub number_read : (r : Number) → r ≡ decimal (get_or limits i 0) (take (stop - start) (drop start line)) → number_at xs limits i ≡ r
-  number_read r d =
-      sym (d ∙ ap (decimal (get_or limits i 0)) (word_between line (from_word (drop end line)) start stop w.ordered w.within w.begins w.ends ∙ ap (λ (l : List ℕ). next_of l) e))
-
-  pub one_word_more : drop stop line ≡ after_words (i + 1) xs
+module _ (xs ys : List ℕ) (i : ℕ) (e : ys ≡ after_words i xs) where
+  pub one_word_more : (zs : List ℕ) → zs ≡ after_next ys → zs ≡ after_words (i + 1) xs
   unfolding after_words
-  one_word_more = w.ends ∙ ap (λ (l : List ℕ). after_next l) e ∙ rw (add-one i)
+  one_word_more zs f = f ∙ ap (λ (l : List ℕ). after_next l) e ∙ rw (add-one i)
 
-pub each_more : (xs limits value : List ℕ) (i v : ℕ) → i < length value → ((k : ℕ) → k < i → number_at xs limits k ≡ Is (get_or value k 0)) → number_at xs limits i ≡ Is v → (k : ℕ) → k < i + 1 → number_at xs limits k ≡ Is (get_or (set value i v) k 0)
-each_more xs limits value i v l h e =
-    below_more _ _
-    (λ k b. h k b ∙ ap Is (sym (get_or-set_other value i k v 0 (λ q. omega arith))))
-    (e ∙ ap Is (sym (get_or-set_same value i v 0 l)))
+  pub word_read : (most v : ℕ) → decimal most (next_of ys) ≡ Some v → decimal most (word_at i xs) ≡ Some v
+  word_read most v r = ap (λ (l : List ℕ). decimal most (next_of l)) (sym e) ∙ r
 
-module _ (xs limits line : List ℕ) (m : Numbers) (b : Bool) (n : ReadNumbers xs limits line m) where
-  pub only_read : (b ≡ true → from_word (drop m.end line) ≡ []) → b ≡ true → OnlyNumbers xs limits m
-  only_read f t = record { read = λ g. (ap from_word (sym (n.read g).0) ∙ f t, (n.read g).1); refused = λ g. inl (n.refused g) }
+module _ (read : ℕ → Option ℕ) (values : List ℕ) (i v : ℕ) (h : (k : ℕ) → k < i → read k ≡ Some (get_or values k 0)) (e : read i ≡ Some v) where
+  pub each_set : i < length values → (k : ℕ) → k < i + 1 → read k ≡ Some (get_or (set values i v) k 0)
+  each_set l =
+      below_more _ _
+      (λ k b. h k b ∙ ap Some (sym (get_or-set_other values i k v 0 (λ q. omega arith))))
+      (e ∙ ap Some (sym (get_or-set_same values i v 0 l)))
 
-  pub not_only : (r : Numbers) → r.good ≡ false → (from_word (drop m.end line) ≡ [] → b ≡ true) → b ≡ false → OnlyNumbers xs limits r
-  not_only r h f t =
-      record {
-        read = λ g. let y : ◌≡◌ {A = ℕ} 0 1 = cc in absurd (omega arith);
-        refused = λ g. go m.good refl;
-      }
-    where
-      go : (g : Bool) → m.good ≡ g → ((k : ℕ) × ((k < length limits) × (number_at xs limits k ≡ Bad))) ⊎ (from_word (after_words (length limits) xs) ≡ [] → ⊥)
-      go false e = inl (n.refused e)
-      go true e = inr (λ z. let u = f (ap from_word (n.read e).0 ∙ z) in let y : ◌≡◌ {A = ℕ} 0 1 = cc in omega arith)
+  pub each_pushed : length values ≡ i → (k : ℕ) → k < i + 1 → read k ≡ Some (get_or (values ++ v ∷ []) k 0)
+  each_pushed l =
+      below_more _ _
+      (λ k b. h k b ∙ ap Some (grind (arith, common_steps)))
+      (e ∙ ap Some (grind (arith, common_steps)))
+
+pub length_one_more : (values : List ℕ) (i v : ℕ) → length values ≡ i → length (values ++ v ∷ []) ≡ i + 1
+length_one_more values i v e = grind (arith, common_steps)
+
+-- ---- a number that is read is at most its limit
+
+from_most : (most n : ℕ) (w : List ℕ) (v : ℕ) → n ≤ most → decimal_from most n w ≡ Some v → v ≤ most
+unfolding decimal_from
+from_most most n [] v h e = let q : n ≡ v = cc in omega arith
+from_most most n (d ∷ ds) v h e =
+    go (leb digit0 d) (leb d digit9) (leb (more n d) most) (λ t. from_most most (more n d) ds v (leb-true (more n d) most t)) e
+  where
+    go : (a b c : Bool) → (c ≡ true → decimal_from most (more n d) ds ≡ Some v → v ≤ most) → cond (a && b && c) (decimal_from most (more n d) ds) None ≡ Some v → v ≤ most
+    go true true true f q = f refl q
+    go true true false f q = absurd cc
+    go true false c f q = absurd cc
+    go false b c f q = absurd cc
+
+pub at_most : (most : ℕ) (w : List ℕ) (v : ℕ) → decimal most w ≡ Some v → v ≤ most
+unfolding decimal
+at_most most [] v e = absurd cc
+at_most most (d ∷ ds) v e = from_most most 0 (d ∷ ds) v (omega arith) e
+
+-- the members that were read
+pub all_at_most : (members : List ℕ) (most : ℕ) (word : ℕ → List ℕ) → ((k : ℕ) → k < length members → decimal most (word k) ≡ Some (get_or members k 0)) → All (λ (member : ℕ). member ≤ most) members
+all_at_most members most word h k d l = let e : get_or members k d ≡ get_or members k 0 = grind (arith, common_steps) in omega (arith, e, at_most most (word k) (get_or members k 0) (h k l))

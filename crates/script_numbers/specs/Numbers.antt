@@ -1,13 +1,10 @@
 -- Decimal numbers of a line, each with the most that its argument takes, and lists of such numbers.
-use Rattle.std.specs.Prelude.{ℕ, ◌+◌, ◌*◌, ◌-◌, ◌≤◌, ◌<◌, ◌≡◌, Bool, true, false, cond, ◌&&◌, List, [], ◌∷◌, ◌⊎◌, leb, length, take, drop, get_or}
-use Rattle.script_numbers.specs.declared.Number.{Number}
-use Rattle.script_numbers.specs.declared.Number.TheVariants.{Is, Bad}
-use Rattle.script_numbers.specs.declared.Numbers.{Numbers}
+use Rattle.std.specs.Prelude.{ℕ, ◌+◌, ◌*◌, ◌-◌, ◌≤◌, ◌<◌, ◌≡◌, Bool, cond, ◌&&◌, List, [], ◌∷◌, ◌⊎◌, Option, Some, None, leb, length, get_or, All}
 use Rattle.script_words.specs.Words.{from_word, next_of, after_next, word_at, after_words}
 
--- the most numbers that are read in a row: a list's members
-abbrev pub numbers_most : ℕ
-numbers_most = 40
+-- the most members of a list
+abbrev pub members_most : ℕ
+members_most = 40
 
 -- the largest number of 32 bits
 abbrev pub most32 : ℕ
@@ -29,52 +26,60 @@ more n d = n * base + (d - digit0)
 abbrev pub is_next : (most n digit : ℕ) → Bool
 is_next most n d = leb digit0 d && leb d digit9 && leb (more n d) most
 
-unfoldable pub with_digit : (most n digit : ℕ) → Number
-with_digit most n d = cond (is_next most n d) (Is (more n d)) Bad
+unfoldable pub with_digit : (most n digit : ℕ) → Option ℕ
+with_digit most n d = cond (is_next most n d) (Some (more n d)) None
 
 -- the digits from the left: bad at the first octet that is no digit or takes the number above the most
-unfoldable pub decimal_from : (most n : ℕ) → List ℕ → Number
-decimal_from most n [] = Is n
-decimal_from most n (d ∷ ds) = cond (is_next most n d) (decimal_from most (more n d) ds) Bad
+unfoldable pub decimal_from : (most n : ℕ) → List ℕ → Option ℕ
+decimal_from most n [] = Some n
+decimal_from most n (d ∷ ds) = cond (is_next most n d) (decimal_from most (more n d) ds) None
 
-unfoldable pub decimal : (most : ℕ) → List ℕ → Number
-decimal most [] = Bad
+unfoldable pub decimal : (most : ℕ) → List ℕ → Option ℕ
+decimal most [] = None
 decimal most (d ∷ ds) = decimal_from most 0 (d ∷ ds)
 
 -- word k of the line, as a number of at most the limit k
-abbrev pub number_at : (line limits : List ℕ) → ℕ → Number
+abbrev pub number_at : (line limits : List ℕ) → ℕ → Option ℕ
 number_at xs ms k = decimal (get_or ms k 0) (word_at k xs)
 
--- the numbers that octets `xs`, the end of a line, begin with, one for each limit
-pub record ReadNumbers (xs limits line : List ℕ) (r : Numbers) : Type 0 where
-  pub within : r.end ≤ length line
-  pub sized : length r.value ≡ numbers_most
-  pub read : r.good ≡ true → (drop r.end line ≡ after_words (length limits) xs) × ((k : ℕ) → k < length limits → number_at xs limits k ≡ Is (get_or r.value k 0))
-  pub refused : r.good ≡ false → (k : ℕ) × ((k < length limits) × (number_at xs limits k ≡ Bad))
+-- the numbers with which octets `xs`, the end of a line, begin, one for each limit, and what is left behind them
+pub record ReadNumbers (xs limits numbers rest : List ℕ) : Type 0 where
+  pub sized : length numbers ≡ length limits
+  pub behind : rest ≡ after_words (length limits) xs
+  pub read : (k : ℕ) → k < length limits → number_at xs limits k ≡ Some (get_or numbers k 0)
+  pub bounded : (k : ℕ) → k < length limits → get_or numbers k 0 ≤ get_or limits k 0
+
+-- a word is no number of at most its limit, or is missing
+abbrev pub HasUnread : (xs limits : List ℕ) → Type 0
+HasUnread xs limits = (k : ℕ) × ((k < length limits) × (number_at xs limits k ≡ None))
 
 -- the numbers are all that is left of the line
-pub record OnlyNumbers (xs limits : List ℕ) (r : Numbers) : Type 0 where
-  pub read : r.good ≡ true → (from_word (after_words (length limits) xs) ≡ []) × ((k : ℕ) → k < length limits → number_at xs limits k ≡ Is (get_or r.value k 0))
-  pub refused : r.good ≡ false → ((k : ℕ) × ((k < length limits) × (number_at xs limits k ≡ Bad))) ⊎ (from_word (after_words (length limits) xs) ≡ [] → ⊥)
+pub record OnlyNumbers (xs limits numbers : List ℕ) : Type 0 where
+  pub sized : length numbers ≡ length limits
+  pub finished : from_word (after_words (length limits) xs) ≡ []
+  pub read : (k : ℕ) → k < length limits → number_at xs limits k ≡ Some (get_or numbers k 0)
+  pub bounded : (k : ℕ) → k < length limits → get_or numbers k 0 ≤ get_or limits k 0
+
+-- .. or a word follows
+abbrev pub HasUnreadOrMore : (xs limits : List ℕ) → Type 0
+HasUnreadOrMore xs limits = HasUnread xs limits ⊎ (from_word (after_words (length limits) xs) ≡ [] → ⊥)
 
 -- ---- a list: how many members it has, and then the members
 
-abbrev pub size_of : List ℕ → Number
-size_of xs = decimal numbers_most (next_of xs)
+abbrev pub size_of : List ℕ → Option ℕ
+size_of xs = decimal members_most (next_of xs)
 
 -- member k, counted from 0
-abbrev pub member_at : (xs : List ℕ) (most : ℕ) → ℕ → Number
+abbrev pub member_at : (xs : List ℕ) (most : ℕ) → ℕ → Option ℕ
 member_at xs most k = decimal most (word_at k (after_next xs))
 
--- there is room for n members; the second part follows from the first, and lets a caller lend them on
-abbrev pub Holds : List ℕ → ℕ → Type 0
-Holds value n = (n ≤ length value) × (n ≡ length (take n value))
+-- the list with which octets `xs`, the end of a line, begin: its members, and what is left behind it
+pub record ReadList (xs : List ℕ) (most : ℕ) (members rest : List ℕ) : Type 0 where
+  pub size : size_of xs ≡ Some (length members)
+  pub behind : rest ≡ after_words (length members) (after_next xs)
+  pub read : (k : ℕ) → k < length members → member_at xs most k ≡ Some (get_or members k 0)
+  pub bounded : All (λ member. member ≤ most) members
 
--- the list that octets `xs`, the end of a line, begin with: `count` members, from the start of `value` on; the list ends at `end`
-pub record ReadList (xs : List ℕ) (most : ℕ) (line value : List ℕ) (count end : ℕ) (good : Bool) : Type 0 where
-  pub within : end ≤ length line
-  pub sized : length value ≡ numbers_most
-  pub holds : Holds value count
-  pub size : good ≡ true → size_of xs ≡ Is count
-  pub read : good ≡ true → (drop end line ≡ after_words count (after_next xs)) × ((k : ℕ) → k < count → member_at xs most k ≡ Is (get_or value k 0))
-  pub refused : good ≡ false → (size_of xs ≡ Bad) ⊎ ((n : ℕ) × ((size_of xs ≡ Is n) × ((k : ℕ) × ((k < n) × (member_at xs most k ≡ Bad)))))
+-- the size is no number of at most the most members, or a member no number of at most `most`
+abbrev pub IsNoList : (xs : List ℕ) (most : ℕ) → Type 0
+IsNoList xs most = (size_of xs ≡ None) ⊎ ((n : ℕ) × ((size_of xs ≡ Some n) × ((k : ℕ) × ((k < n) × (member_at xs most k ≡ None)))))

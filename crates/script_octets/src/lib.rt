@@ -1,148 +1,88 @@
 // Octets in lower-case hex.
 #![tactic(auto)]
 
-ghost use Rattle.std.specs.Prelude.{◌≡◌, false, ◌/◌, ◌≤◌, length, drop};
+ghost use Rattle.std.specs.Prelude.{◌≡◌, ◌≤◌, ◌<◌, IfOk, IfSome, MatchOption, vec_len};
+ghost use Rattle.script_words.specs.Words.{next_of};
 ghost use Rattle.script_octets.specs.Octets as O;
 
 use script_words::{is_finished, next_word};
+use std::alloc::{AllocError, Global};
 
 const BASE: u8 = 16;
 
-const NO_OCTETS: u8 = b'-';
-
-// A hex digit's value.
-#[derive(Clone, Copy)]
-pub enum Digit {
-    Is(u8),
-    Bad,
-}
-
-// How many octets were read. `good` is false where the word could not be read.
-#[derive(Clone, Copy)]
-pub struct Octets {
-    pub count: usize,
-    pub good: bool,
-}
-
-// The same of a line's next word, and where this word ends.
-#[derive(Clone, Copy)]
-pub struct NextOctets {
-    pub count: usize,
-    pub end: usize,
-    pub good: bool,
-}
+const NO_OCTETS: &[u8] = b"-";
 
 // The value of `0` to `9` and `a` to `f`.
-fn digit_of(letter: u8) -> Digit
-    ensures { result ≡ O.digit_of letter }
+#[tactic(auto, using(std::proofs::lemmas::Bool::Decides::nat_tests), unfolding(crate::specs::Octets::digit_of))]
+fn digit_of(letter: u8) -> Option<u8>
+    ensures value { result ≡ O.digit_of letter }
+    ensures small { IfSome result (λ digit. digit < 16) }
 {
-    if letter < b'0' {
-        return Digit::Bad;
+    match letter {
+        b'0'..=b'9' => Some(letter - b'0'),
+        b'a'..=b'f' => Some(letter - b'a' + 10),
+        _ => None,
     }
-    if letter <= b'9' {
-        return Digit::Is(letter - b'0');
-    }
-    if letter < b'a' {
-        return Digit::Bad;
-    }
-    if letter <= b'f' {
-        return Digit::Is(letter - b'a' + 10);
-    }
-    Digit::Bad
 }
 
 // Two digits as an octet.
-fn pair(high: u8, low: u8) -> Digit
+fn pair(high: u8, low: u8) -> Option<u8>
     ensures { result ≡ O.octet_of high low }
 {
-    let Digit::Is(h) = digit_of(high) else {
-        return Digit::Bad;
-    };
-    let Digit::Is(l) = digit_of(low) else {
-        return Digit::Bad;
-    };
-    Digit::Is(h * BASE + l)
-}
-
-// No octets, of a word that could not be read.
-fn unreadable() -> Octets
-    ensures { (result.count ≡ 0) × (result.good ≡ false) }
-{
-    Octets {
-        count: 0,
-        good: false,
-    }
+    Some(digit_of(high)? * BASE + digit_of(low)?)
 }
 
 // The octets that a word of an even number of hex digits says.
-fn pairs(word: &[u8], out: &mut [u8]) -> Octets
-    requires { length word.now / 2 ≤ length out.old }
-    ensures { O.Pairs word.now out.new result }
+fn pairs(alloc: Global, word: &[u8]) -> Result<Option<Vec<u8>>, AllocError>
+    ensures { IfOk result (λ r. MatchOption r (O.HasBadPair word.now) (λ octets. O.Pairs word.now octets.items)) }
 {
-    let n = word.len() / 2;
-    let mut i = 0;
-    while i < n {
-        let Digit::Is(octet) = pair(word[2 * i], word[2 * i + 1]) else {
-            break;
+    let mut octets = Vec::new(alloc);
+    for digits in word.chunks_exact(2) {
+        let Some(octet) = pair(digits[0], digits[1]) else {
+            return Ok(None);
         };
-        out[i] = octet;
-        i += 1;
+        octets.push(octet)?;
     }
-    Octets {
-        count: i,
-        good: i == n,
-    }
+    Ok(Some(octets))
 }
 
-// The octets that a word says: `-` for none. At most as many as there is room for.
-fn read_octets(word: &[u8], out: &mut [u8]) -> Octets
-    ensures { O.ReadOctets word.now out.new result }
+// The octets that a word says, at most `most`: `-` for none.
+fn read_octets(alloc: Global, word: &[u8], most: usize) -> Result<Option<Vec<u8>>, AllocError>
+    ensures { IfOk result (λ r. MatchOption r (O.Unsayable word.now most) (λ octets. O.Says word.now octets.items × (vec_len octets ≤ most))) }
 {
-    if word.len() == 0 {
-        return unreadable();
+    if word == NO_OCTETS {
+        return Ok(Some(Vec::new(alloc)));
     }
-    if word.len() == 1 {
-        return Octets {
-            count: 0,
-            good: word[0] == NO_OCTETS,
-        };
+    if word.is_empty() || word.len() % 2 != 0 || word.len() / 2 > most {
+        return Ok(None);
     }
-    if word.len() % 2 != 0 {
-        return unreadable();
-    }
-    if word.len() / 2 > out.len() {
-        return unreadable();
-    }
-    pairs(word, out)
+    pairs(alloc, word)
 }
 
-// The octets of a line's next word, which begins from `at` on.
-pub fn next_octets(line: &[u8], at: usize, out: &mut [u8]) -> NextOctets
-    requires { at ≤ length line.now }
-    ensures { O.ReadNext (drop at line.now) line.now out.new result }
+// The octets that the next word of a text says, at most `most`, and what stands behind it.
+pub fn next_octets<'a>(
+    alloc: Global,
+    text: &'a [u8],
+    most: usize,
+) -> Result<Option<(Vec<u8>, &'a [u8])>, AllocError>
+    ensures { IfOk result (λ r. MatchOption r (O.Unsayable (next_of text.now) most) (λ o. O.ReadNext text.now most o.0.items o.1.now)) }
 {
-    let word = next_word(line, at);
-    let start = word.start;
-    let end = word.end;
-    let octets = read_octets(&line[start..end], out);
-    NextOctets {
-        count: octets.count,
-        end,
-        good: octets.good,
-    }
+    let (word, rest) = next_word(text);
+    let Some(octets) = read_octets(alloc, word, most)? else {
+        return Ok(None);
+    };
+    Ok(Some((octets, rest)))
 }
 
-// The octets of a line's last word, which begins from `at` on.
-pub fn last_octets(line: &[u8], at: usize, out: &mut [u8]) -> Octets
-    requires { at ≤ length line.now }
-    ensures { O.LastOctets (drop at line.now) out.new result }
+// The octets that the last word of a text says, at most `most`.
+pub fn last_octets(alloc: Global, text: &[u8], most: usize) -> Result<Option<Vec<u8>>, AllocError>
+    ensures { IfOk result (λ r. MatchOption r (O.UnsayableOrMore text.now most) (λ octets. O.LastOctets text.now most octets.items)) }
 {
-    let next = next_octets(line, at, out);
-    if !is_finished(line, next.end) {
-        return unreadable();
+    let Some((octets, rest)) = next_octets(alloc, text, most)? else {
+        return Ok(None);
+    };
+    if !is_finished(rest) {
+        return Ok(None);
     }
-    Octets {
-        count: next.count,
-        good: next.good,
-    }
+    Ok(Some(octets))
 }

@@ -1,51 +1,65 @@
--- A turn of the loops that look for a word's ends, and the word between them. Assumes nothing.
-use mathlib.Core.Path.{◌≡◌, sym, ap, ◌∙◌}
-use mathlib.Core.List.{List, []}
-use Prim.Native.Nat.{ℕ, ◌+◌, ◌-◌, ◌≤◌, ◌<◌}
-use native.Mathlib.Omega.{arith}
-use native.Mathlib.Numerals.{add-one}
-use lib.ListN.{length, take, drop, get_or, length-drop}
-use lib.Seq.{drop-cons, drop-length}
-use mathlib.Core.Bool.{true}
-use lib.Dec.{eqb}
-use borrow.Author.Tests.{eq-eqb, ne_eqb, eqb-true}
+-- Where a word begins and ends: at the first octet that is no space, and at the first space behind it. Assumes nothing.
+use Rattle.std.proofs.Common.{◌≡◌, ℕ, ◌+◌, ◌-◌, ◌≤◌, Bool, true, false, cond, not, eqb, ltb, List, [], ◌∷◌, length, take, drop, refl, sym, ap, ◌∙◌, arith, Option, Some, None, length-drop}
+use Rattle.std.specs.List.{position_or_len}
+use Rattle.std.specs.Option.{unwrap_or}
+use Rattle.std.proofs.lemmas.Grind.{common_steps}
 use Rattle.script_words.specs.Words.{space, from_word, behind, word_of}
 
-module _ (xs : List ℕ) (i : ℕ) where
-  pub from_space : i < length xs → get_or xs i 0 ≡ space → from_word (drop i xs) ≡ from_word (drop (i + 1) xs)
-  unfolding from_word
-  from_space h e = rw (add-one i, drop-cons xs i 0 h, eq-eqb (get_or xs i 0) space e)
+abbrev pub is_space : ℕ → Bool
+is_space x = eqb x space
 
-  pub from_other : i < length xs → (get_or xs i 0 ≡ space → ⊥) → drop i xs ≡ from_word (drop i xs)
-  unfolding from_word
-  from_other h e = rw (drop-cons xs i 0 h, ne_eqb (get_or xs i 0) space e)
+abbrev pub is_other : ℕ → Bool
+is_other x = not (eqb x space)
 
-  pub from_end : i ≡ length xs → drop i xs ≡ from_word (drop i xs)
-  unfolding from_word
-  from_end e = rw (e, drop-length xs)
+-- what `position` gives
+abbrev pub IsPlace : (ℕ → Bool) → List ℕ → Option ℕ → Type 0
+IsPlace test xs r = r ≡ cond (ltb (position_or_len test xs) (length xs)) (Some (position_or_len test xs)) None
 
-  pub behind-other : i < length xs → (get_or xs i 0 ≡ space → ⊥) → behind (drop i xs) ≡ behind (drop (i + 1) xs)
-  unfolding behind
-  behind-other h e = rw (add-one i, drop-cons xs i 0 h, ne_eqb (get_or xs i 0) space e)
+before_other : (xs : List ℕ) → drop (position_or_len is_other xs) xs ≡ from_word xs
+unfolding from_word
+before_other [] = refl
+before_other (x ∷ xs) = go (eqb x space) (before_other xs)
+  where
+    go : (b : Bool) → drop (position_or_len is_other xs) xs ≡ from_word xs → drop (cond (not (not b)) (1 + position_or_len is_other xs) 0) (x ∷ xs) ≡ cond b (from_word xs) (x ∷ xs)
+    go true h = grind (arith, common_steps, h)
+    go false h = refl
 
-  pub behind-space : i < length xs → get_or xs i 0 ≡ space → drop i xs ≡ behind (drop i xs)
-  unfolding behind
-  behind-space h e = rw (drop-cons xs i 0 h, eq-eqb (get_or xs i 0) space e)
+before_space : (xs : List ℕ) → drop (position_or_len is_space xs) xs ≡ behind xs
+unfolding behind
+before_space [] = refl
+before_space (x ∷ xs) = go (eqb x space) (before_space xs)
+  where
+    go : (b : Bool) → drop (position_or_len is_space xs) xs ≡ behind xs → drop (cond (not b) (1 + position_or_len is_space xs) 0) (x ∷ xs) ≡ cond b (x ∷ xs) (behind xs)
+    go true h = refl
+    go false h = grind (arith, common_steps, h)
 
-  pub behind_end : i ≡ length xs → drop i xs ≡ behind (drop i xs)
-  unfolding behind
-  behind_end e = rw (e, drop-length xs)
+place_within : (test : ℕ → Bool) (xs : List ℕ) → position_or_len test xs ≤ length xs
+place_within test [] = omega arith
+place_within test (x ∷ xs) = go (test x) (place_within test xs)
+  where
+    go : (b : Bool) → position_or_len test xs ≤ length xs → cond (not b) (1 + position_or_len test xs) 0 ≤ length (x ∷ xs)
+    go true h = omega arith
+    go false h = omega arith
 
--- the octets between a word's ends are the word
-pub word_between : (xs ys : List ℕ) (s e : ℕ) → s ≤ e → e ≤ length xs → drop s xs ≡ ys → drop e xs ≡ behind ys → take (e - s) (drop s xs) ≡ word_of ys
-word_between xs ys s e l m b d =
-    let p : length ys ≡ length xs - s = ap length (sym b) ∙ length-drop s xs in
-    let q : length (behind ys) ≡ length xs - e = ap length (sym d) ∙ length-drop e xs in
-    let n : e - s ≡ length ys - length (behind ys) = omega arith in
-    ap (λ (k : ℕ). take k (drop s xs)) n ∙ ap (take (length ys - length (behind ys))) b
+or_end : (n m : ℕ) (r : Option ℕ) → n ≤ m → r ≡ cond (ltb n m) (Some n) None → unwrap_or r m ≡ n
+or_end n m r h e = grind (arith, common_steps)
 
-pub finished : (xs : List ℕ) (ys : List ℕ) (r : ℕ) → r ≤ length xs → drop r xs ≡ ys → (eqb r (length xs) ≡ true → ys ≡ []) × (ys ≡ [] → eqb r (length xs) ≡ true)
-finished xs ys r l e = (
-  (λ t. sym e ∙ ap (λ (k : ℕ). drop k xs) (eqb-true r (length xs) t) ∙ drop-length xs),
-  (λ z. let h : length xs - r ≡ 0 = sym (length-drop r xs) ∙ ap length (e ∙ z) in eq-eqb r (length xs) (omega arith)),
-)
+-- the place, or the end of the text where there is none
+or_length : (test : ℕ → Bool) (xs : List ℕ) (r : Option ℕ) → IsPlace test xs r → unwrap_or r (length xs) ≡ position_or_len test xs
+or_length test xs r e = or_end (position_or_len test xs) (length xs) r (place_within test xs) e
+
+pub spaces_skipped : (xs : List ℕ) (r : Option ℕ) → IsPlace is_other xs r → drop (unwrap_or r (length xs)) xs ≡ from_word xs
+spaces_skipped xs r e = rw (or_length is_other xs r e) (before_other xs)
+
+pub word_passed : (xs : List ℕ) (r : Option ℕ) → IsPlace is_space xs r → drop (unwrap_or r (length xs)) xs ≡ behind xs
+word_passed xs r e = rw (or_length is_space xs r e) (before_space xs)
+
+-- what stands before the end of a word is the word
+pub word_taken : (xs : List ℕ) (n : ℕ) → n ≤ length xs → drop n xs ≡ behind xs → take n xs ≡ word_of xs
+word_taken xs n h e =
+    let l : length (behind xs) ≡ length xs - n = ap length (sym e) ∙ length-drop n xs in
+    let k : n ≡ length xs - length (behind xs) = omega arith in
+    ap (λ (i : ℕ). take i xs) k
+
+pub place_fits : (test : ℕ → Bool) (xs : List ℕ) (r : Option ℕ) → IsPlace test xs r → unwrap_or r (length xs) ≤ length xs
+place_fits test xs r e = omega (arith, or_length test xs r e, place_within test xs)

@@ -1,5 +1,5 @@
 -- The words of a line: what stands between spaces. A line is its octets, and a place in it the octets from there on.
-use Rattle.std.specs.Prelude.{ℕ, zero, suc, ◌-◌, ◌≤◌, ◌≡◌, cond, List, [], ◌∷◌, eqb, length, take, drop}
+use Rattle.std.specs.Prelude.{ℕ, zero, suc, ◌-◌, cond, List, [], ◌∷◌, eqb, length, take}
 
 abbrev pub space : ℕ
 space = 32
@@ -33,10 +33,3 @@ after_words (suc k) xs = after_next (after_words k xs)
 -- word k, counted from 0
 abbrev pub word_at : ℕ → List ℕ → List ℕ
 word_at k xs = next_of (after_words k xs)
-
--- the next word from `at` on begins at `start` and ends at `end`
-pub record NextWord (line : List ℕ) (at start end : ℕ) : Type 0 where
-  pub ordered : start ≤ end
-  pub within : end ≤ length line
-  pub begins : drop start line ≡ from_word (drop at line)
-  pub ends : drop end line ≡ after_next (drop at line)

@@ -8,7 +8,7 @@ use lib.Dec.{ltb, eqb}
 use lib.ListN.{take, get_or}
 use Rattle.lists.specs.Lists.{elem}
 use Rattle.rules.specs.Settings.{interface_most}
-use Rattle.table_record_check.specs.declared.Limits.{Limits}
+use Rattle.table_record_check.specs.declared.record_limits.Limits.{Limits}
 use Rattle.table_record_check.specs.Limits.{Describes, own_of}
 use Rattle.table_layout.specs.Layout.{used_at, window_at, time_at, own_place}
 use Rattle.table_layout.specs.Cells.{config_in}

@@ -3,35 +3,32 @@ use mathlib.Core.Path.{◌≡◌, refl, sym, ap, ◌∙◌}
 use mathlib.Core.List.{List, []}
 use mathlib.Core.Bool.{Bool, true, false, cond, ◌&&◌, and-true}
 use mathlib.Core.Option.{Option, none, some}
-use Prim.Native.Nat.{ℕ, ◌+◌, ◌*◌, ◌-◌, ◌%◌, ◌≤◌, ◌<◌}
+use Prim.Native.Nat.{ℕ, ◌+◌, ◌*◌, ◌%◌, ◌<◌}
 use native.Mathlib.Nat.{zero-add}
 use native.Mathlib.Omega.{arith}
-use lib.Dec.{leb, ltb, eqb}
-use lib.ListN.{length, take, drop, get_or, get_or-map}
-use lib.Seq.{drop-drop}
+use lib.Dec.{ltb, eqb}
+use lib.ListN.{drop, get_or, get_or-map}
 use borrow.Author.Tests.{ltb-true, lt-ltb}
 use Rattle.lists.specs.Lists.{maybe, and, all}
 use Rattle.lists.specs.Keyed.{lookup, rising}
 use Rattle.cells.specs.Area.{rows_of, all_zero, scan}
 use Rattle.cells.specs.Pairs.{pair_of}
 use Rattle.lists.proofs.Lists.{all_map, map-map}
-use Rattle.cells.proofs.Keys.{row-key, scan-next, scan_stop, scan_end, scan_is}
-use Rattle.cells.proofs.Trips.{rows_take, rows-at}
-use Rattle.cells.proofs.Pairs.{pair-at}
-use Rattle.cells.proofs.Lent.{drop-take, part_is}
+use Rattle.cells.proofs.Keys.{scan_is}
+use Rattle.cells.proofs.Trips.{rows-at}
 use Rattle.window.specs.Window.{numbers, distance}
-use Rattle.rules.specs.Settings.{Config, is_address, is_number, interface_at, interface_most, interface_cells, neighbour_cells, neighbour_most, neighbour_area_cells, record_cells}
+use Rattle.rules.specs.Settings.{Config, is_address, is_number, interface_at, interface_most, interface_cells, neighbour_cells, record_cells}
 use Rattle.rules.specs.Calls.{pairs, neighbour_of, interface_of}
 use Rattle.rules.specs.Rules.{last_sent}
 use Rattle.rules.specs.WellFormed.{row_tests}
 use Rattle.rules.proofs.Parts.{row_parts}
-use Rattle.table_record.specs.Record.{decode_record, record_ok, address_at}
+use Rattle.table_record.specs.Record.{decode_record, record_ok}
 use Rattle.table_record.proofs.Rows.{record_key}
 use Rattle.table_record.proofs.Rows.{small-pair}
-use Rattle.table_layout.specs.Layout.{used_at, timeout_at, rows_at, sent_at, last_at, own_place, neighbours_from, records_from, interface_part, neighbour_part}
+use Rattle.table_layout.specs.Layout.{used_at, timeout_at, rows_at, sent_at, last_at, own_place, interface_part, neighbour_part}
 use Rattle.table_layout.specs.Interfaces.{InterfaceRow, decode_interface}
 use Rattle.table_layout.specs.Cells.{interfaces_in, config_in, sends_in, rows_in, unused_rows}
-use Rattle.table_settings.proofs.Turns.{row_of_lem, first_then}
+use Rattle.table_settings.proofs.Turns.{row_of_lem}
 use Rattle.table_check.specs.Check.{neighbours_ok, record_rows_ok}
 use Rattle.table_layout.proofs.Interfaces.{lookup-sends}
 use Rattle.table_layout.proofs.Encoding.{used-length}
@@ -90,68 +87,20 @@ module _ (c : List ℕ) (pair number : ℕ) where
 abbrev pub neighbour_row : List ℕ → List ℕ → Bool
 neighbour_row c row = and (row_tests (config_in c) (sends_in c) (pair_of row))
 
--- the rows from place `at` on, where pairs below `low` are passed
-abbrev pub neighbours_from_lem : List ℕ → ℕ → ℕ → ℕ → Bool
-neighbours_from_lem c low at left = scan (neighbour_row c) low (rows_of neighbour_cells left (drop at c))
-
-module _ (c : List ℕ) (low at left : ℕ) (t : Bool) (e : t ≡ leb low (get_or c at 0) && and (row_tests (config_in c) (sends_in c) (get_or c at 0, get_or c (at + 1) 0))) where
-  here : leb low (get_or c at 0) && neighbour_row c (take neighbour_cells (drop at c)) ≡ t
-  here = ap (λ (l : ℕ × ℕ). leb low (get_or c at 0) && and (row_tests (config_in c) (sends_in c) l)) (pair-at c at) ∙ sym e
-
-  pub neighbours_next : 0 < left → t ≡ true → neighbours_from_lem c low at left ≡ neighbours_from_lem c (get_or c at 0 + 1) (at + neighbour_cells) (left - 1)
-  neighbours_next h k = scan-next (neighbour_row c) neighbour_cells low c at left (omega arith) h (here ∙ k)
-
-  pub neighbours_stop : 0 < left → t ≡ false → neighbours_from_lem c low at left ≡ false
-  neighbours_stop h k = scan_stop (neighbour_row c) neighbour_cells low c at left (omega arith) h (here ∙ k)
-
-pub neighbours_end : (c : List ℕ) (low at left : ℕ) → left ≤ 0 → neighbours_from_lem c low at left ≡ true
-neighbours_end c low at left h = scan_end (neighbour_row c) neighbour_cells low c at left (omega arith) h
-
 -- a pair that passes is small
 pub neighbour_small : (c : List ℕ) (pair number : ℕ) → and (row_tests (config_in c) (sends_in c) (pair, number)) ≡ true → pair < pairs
 neighbour_small c pair number h = ltb-true pair pairs (small-pair pair ∙ (row_parts (config_in c) (sends_in c) (pair, number) h).neighbour)
 
-pub neighbours_done : (c : List ℕ) (t z : Bool) → get_or c rows_at 0 ≤ neighbour_most → t ≡ neighbours_from_lem c 0 neighbours_from (get_or c rows_at 0) → (t ≡ true → z ≡ all_zero (unused_rows c)) → t && z ≡ neighbours_ok c
+pub neighbours_done : (c : List ℕ) (t z : Bool) → t ≡ scan (neighbour_row c) 0 (rows_of neighbour_cells (get_or c rows_at 0) (neighbour_part c)) → z ≡ all_zero (unused_rows c) → t && z ≡ neighbours_ok c
 unfolding neighbours_ok
-neighbours_done c t z few et ez =
-    let n = get_or c rows_at 0 in
-    let rows : rows_of neighbour_cells n (neighbour_part c) ≡ rows_of neighbour_cells n (drop neighbours_from c) = rows_take neighbour_cells n neighbour_area_cells (drop neighbours_from c) (omega arith) in
+neighbours_done c t z et ez =
+    let rows = rows_of neighbour_cells (get_or c rows_at 0) (neighbour_part c) in
     let tests : ℕ × ℕ → Bool = λ e. and (row_tests (config_in c) (sends_in c) e) in
     let s : t ≡ rising (rows_in c) && all tests (rows_in c) =
-    et ∙ ap (scan (neighbour_row c) 0) (sym rows) ∙ scan_is pair_of (λ r. refl) (neighbour_row c) (rows_of neighbour_cells n (neighbour_part c))
-    ∙ ap (λ (b : Bool). rising (rows_in c) && b) (sym (all_map pair_of tests (rows_of neighbour_cells n (neighbour_part c)))) in
-    first_then t z (all_zero (unused_rows c)) _ s ez
-
--- the part that is lent for the unused rows
-pub unused-rows : (c : List ℕ) (at : ℕ) → at ≡ neighbours_from + get_or c rows_at 0 * neighbour_cells → get_or c rows_at 0 ≤ neighbour_most → take (records_from - at) (drop at c) ≡ unused_rows c
-unused-rows c at e few =
-    let n = get_or c rows_at 0 in
-    let m = n * neighbour_cells in
-    let d : drop at c ≡ drop m (drop neighbours_from c) = ap (λ (k : ℕ). drop k c) e ∙ sym (drop-drop m neighbours_from c) in
-    let k : records_from - at ≡ neighbour_area_cells - m = omega arith in
-    (λ i. take (k i) (d i)) ∙ sym (drop-take m neighbour_area_cells (drop neighbours_from c))
+    et ∙ scan_is pair_of (λ r. refl) (neighbour_row c) rows ∙ ap (λ (b : Bool). rising (rows_in c) && b) (sym (all_map pair_of tests rows)) in
+    λ i. s i && ez i
 
 -- ---- records
 
-abbrev pub records_from_lem : Config → ℕ → ℕ → List ℕ → ℕ → ℕ → Bool
-records_from_lem κ now low c at left = scan (record_ok κ now) low (rows_of record_cells left (drop at c))
-
-module _ (κ : Config) (now low : ℕ) (c : List ℕ) (at left : ℕ) (within : at + record_cells ≤ length c) (t : Bool)
-    (e : t ≡ leb low (get_or (take (at + record_cells - at) (drop at c)) address_at 0) && record_ok κ now (take (at + record_cells - at) (drop at c))) where
-  this : leb low (get_or c at 0) && record_ok κ now (take record_cells (drop at c)) ≡ t
-  this =
-      ap (λ (k : ℕ). leb low k && record_ok κ now (take record_cells (drop at c))) (sym (row-key record_cells c at (omega arith)))
-      ∙ sym (e ∙ ap (λ (row : List ℕ). leb low (get_or row address_at 0) && record_ok κ now row) (part_is c at record_cells within))
-
-  pub records-next : 0 < left → t ≡ true → records_from_lem κ now low c at left ≡ records_from_lem κ now (get_or c at 0 + 1) c (at + record_cells) (left - 1)
-  records-next h k = scan-next (record_ok κ now) record_cells low c at left (omega arith) h (this ∙ k)
-
-  pub records_stop : 0 < left → t ≡ false → records_from_lem κ now low c at left ≡ false
-  records_stop h k = scan_stop (record_ok κ now) record_cells low c at left (omega arith) h (this ∙ k)
-
-pub records_end : (κ : Config) (now low : ℕ) (c : List ℕ) (at left : ℕ) → left ≤ 0 → records_from_lem κ now low c at left ≡ true
-records_end κ now low c at left h = scan_end (record_ok κ now) record_cells low c at left (omega arith) h
-
-pub records-done : (κ : Config) (now n : ℕ) (c : List ℕ) (t z : Bool) → t ≡ records_from_lem κ now 0 c 0 n → (t ≡ true → z ≡ all_zero (drop (n * record_cells) c)) → t && z ≡ record_rows_ok κ now n c
-records-done κ now n c t z et ez =
-    first_then t z (all_zero (drop (n * record_cells) c)) _ (et ∙ scan_is decode_record record_key (record_ok κ now) (rows_of record_cells n c)) ez
+pub records-done : (κ : Config) (now n : ℕ) (c : List ℕ) (t z : Bool) → t ≡ scan (record_ok κ now) 0 (rows_of record_cells n c) → z ≡ all_zero (drop (n * record_cells) c) → t && z ≡ record_rows_ok κ now n c
+records-done κ now n c t z et ez = let s = et ∙ scan_is decode_record record_key (record_ok κ now) (rows_of record_cells n c) in λ i. s i && ez i

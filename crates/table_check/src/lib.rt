@@ -5,7 +5,7 @@ ghost use Rattle.std.specs.Prelude.{◌≡◌, cond, ℕ, ◌*◌, ◌≤◌, �
 ghost use Rattle.lists.specs.Lists.{and};
 ghost use Rattle.rules.specs.Settings.{Config, interface_most, record_cells};
 ghost use Rattle.rules.specs.WellFormed.{row_tests};
-ghost use Rattle.table_record_check.specs.Limits.{Describes, Windowed};
+ghost use Rattle.table_record_check.specs.Limits.{Describes};
 ghost use Rattle.table_layout.specs.Layout.{used_at, time_at, own_place};
 ghost use Rattle.table_layout.specs.Cells.{config_in, sends_in, well_formed};
 ghost use Rattle.table_check.specs.Check.{neighbours_ok, record_rows_ok};
@@ -17,7 +17,7 @@ use table_layout::{
     INTERFACE, INTERFACES_FROM, LAST, NEIGHBOUR, NEIGHBOURS_FROM, OWN_0, RECORDS, RECORDS_FROM,
     ROWS, SENT, TIME, TIMEOUT, USED, WINDOW,
 };
-use table_record::WIDTH;
+use table_record::{ADDRESS, WIDTH};
 use table_record_check::{Limits, record_ok};
 use table_settings::{head_ok, interfaces_ok};
 use window::{NUMBERS, distance};
@@ -38,24 +38,26 @@ fn neighbour_ok(cells: &[u64], pair: u64, number: u64) -> bool
             & ((cells[at + SENT] == 1) & (distance(last as u16, number as u16) < cells[TIMEOUT])))
 }
 
-// Whether the neighbour rows are a table's: each by itself, rising by the pair, the unused rows zero.
+// Whether the neighbour rows are a table's: each by itself, rising by the pair, the unused rows zero. Its loop is like that of the records; as one function
+// of a width and a test, what the test promises of a row would be longer than both loops.
 fn neighbours_ok(cells: &[u64]) -> bool
     requires { Sized cells.now × Numbered cells.now }
     ensures { result ≡ neighbours_ok cells.now }
 {
-    let mut low: u64 = 0;
-    let mut at = NEIGHBOURS_FROM;
-    let mut left = cells[ROWS];
-    while 0 < left {
-        let pair = cells[at];
-        if !((low <= pair) & neighbour_ok(cells, pair, cells[at + 1])) {
-            break;
+    let end = cells[ROWS] as usize * NEIGHBOUR;
+    let (rows, unused) = cells[NEIGHBOURS_FROM..RECORDS_FROM].split_at(end);
+    if !all_zero(unused) {
+        return false;
+    }
+    let mut low = 0;
+    for row in rows.chunks_exact(NEIGHBOUR) {
+        let pair = row[0];
+        if !((low <= pair) & neighbour_ok(cells, pair, row[1])) {
+            return false;
         }
         low = pair + 1;
-        at += NEIGHBOUR;
-        left -= 1;
     }
-    (left == 0) & all_zero(&cells[at..RECORDS_FROM])
+    true
 }
 
 // The own address of interface i, or the first one where i is not in use.
@@ -73,37 +75,40 @@ fn own_at(cells: &[u64], i: usize) -> u64
 // What the records are held to.
 fn limits_of(cells: &[u64]) -> Limits
     requires { Sized cells.now }
-    ensures { Describes (config_in cells.now) (get_or cells.now time_at 0) result × Windowed result }
+    ensures { Describes (config_in cells.now) (get_or cells.now time_at 0) result }
 {
     Limits {
         window: cells[WINDOW],
         used: cells[USED],
         time: cells[TIME],
-        own_0: cells[OWN_0],
-        own_1: own_at(cells, 1),
-        own_2: own_at(cells, 2),
-        own_3: own_at(cells, 3),
+        own: [
+            cells[OWN_0],
+            own_at(cells, 1),
+            own_at(cells, 2),
+            own_at(cells, 3),
+        ],
     }
 }
 
-// Whether the records are a table's: each by itself, rising by the address, the cells after them zero.
+// Whether the records are a table's: each by itself, rising by the address, the cells after them zero. Not inlined, and these cells first: behind tests that
+// return early LLVM takes a loop for cold and no longer aligns it, which cost a tenth of every call.
+#[inline(never)]
 fn records_ok(part: &[u64], n: usize, limits: Limits) -> bool
-    requires { (n * record_cells ≤ length part.now) × Windowed limits }
+    requires { n * record_cells ≤ length part.now }
     ensures { (κ : Config) (time : ℕ) → Describes κ time limits → result ≡ record_rows_ok κ time n part.now }
 {
-    let mut low: u64 = 0;
-    let mut at = 0;
-    let mut left = n;
-    while 0 < left {
-        let end = at + WIDTH;
-        if !record_ok(&part[at..end], low, limits) {
-            break;
-        }
-        low = part[at] + 1;
-        at = end;
-        left -= 1;
+    let (rows, unused) = part.split_at(n * WIDTH);
+    if !all_zero(unused) {
+        return false;
     }
-    (left == 0) & all_zero(&part[at..])
+    let mut low = 0;
+    for row in rows.chunks_exact(WIDTH) {
+        if !record_ok(row, low, limits) {
+            return false;
+        }
+        low = row[ADDRESS] + 1;
+    }
+    true
 }
 
 // Whether the cells, however many, are those of a well-formed table.

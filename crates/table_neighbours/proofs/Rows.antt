@@ -1,26 +1,33 @@
 -- Neighbour rows found, recorded and dropped in their area, as the rules' keyed list sees it. Assumes nothing.
 use mathlib.Core.Path.{◌≡◌, refl, sym, ap, ◌∙◌, subst}
 use mathlib.Core.Logic.{inl, inr}
-use mathlib.Core.Bool.{Bool, true, false, ◌&&◌}
+use mathlib.Core.Bool.{Bool, true, false}
 use mathlib.Core.List.{List, [], ◌∷◌}
 use mathlib.Core.Option.{Option}
-use Prim.Native.Nat.{ℕ, ◌+◌, ◌-◌, ◌*◌, ◌≤◌, ◌<◌}
-use native.Mathlib.Nat.{add-zero}
+use Rattle.std.specs.Bool.{MatchBool}
+use Rattle.std.specs.List.{AllWithin, HoldsAt, range_with_len}
+use Rattle.std.proofs.lemmas.List.{get_or_default}
+use Rattle.std.proofs.lemmas.List.FromFn.{length-range_with_len, get_or-range_with_len}
+use Prim.Native.Nat.{ℕ, suc, ◌+◌, ◌*◌, ◌≤◌, ◌<◌}
+use native.Mathlib.Nat.{zero-add}
 use native.Mathlib.Omega.{arith}
 use borrow.Author.Tests.{ltb-true}
-use lib.ListN.{length, take, drop, get_or, set, length-set}
-use borrow.Rule.Slice.PartMut.{put_mid}
+use lib.ListN.{length, get_or, set, length-set, get_or-map}
 use Rattle.lists.specs.Lists.{maybe, keep, all}
 use Rattle.lists.specs.Keyed.{has_key, put}
-use Rattle.cells.specs.Area.{zeros, column, written, put_in, insert_at}
+use Rattle.cells.proofs.Bools.{all-place}
+use Rattle.cells.proofs.Trips.{rows-at}
+use Rattle.lists.proofs.Tests.{both}
+use Rattle.cells.specs.Area.{rows_of, column, written, put_in, insert_at}
 use Rattle.cells.specs.Pairs.{pair_cells, pair_row, pair_of, pair_area, pairs_of}
 use Rattle.cells.specs.Find.{Sorted, IsAt, IsPlace}
 use Rattle.cells.proofs.Areas.{length_insert, length-area, put-row, write-row}
 use Rattle.lists.proofs.Lists.{keep_all}
 use Rattle.cells.proofs.Keys.{length-column}
-use Rattle.cells.proofs.Pairs.{pair-wide, length_pairs, pairs-one, pairs-none}
+use Rattle.cells.proofs.Pairs.{pair-wide, length_pairs, pair-at}
 use Rattle.cells.proofs.Search.{Apart, sorted, found_at, found-place, put-among, put_apart, at-below}
-use Rattle.cells.proofs.Compact.{Turn, Pass, pass_start, pass_turn, pass_dropped, pass_moved, pass_along, pass_done, pass_left, pass_size}
+use Rattle.cells_moves.specs.Keeping.{IsRow, kept_rows}
+use Rattle.cells_moves.proofs.Keeping.{row_encodes, kept_length, kept_area}
 use Rattle.window.specs.Window.{numbers}
 use Rattle.rules.specs.Settings.{neighbour_most, neighbour_area_cells, is_number}
 use Rattle.table_neighbours.specs.Neighbours.{RowsHeld, Recorded, NoRoom, stays_after}
@@ -75,14 +82,48 @@ module _ (n : ℕ) (c : List ℕ) (h : RowsHeld n c) where
       pub no_room : IsPlace (column pair_cells n c) k i → n ≡ neighbour_most → NoRoom n c c k
       no_room p m = record { absent = missing p; full = omega arith; same = refl }
 
--- ---- rows read one by one: `left` rows from place `at` on
+-- ---- rows read in their places
 
-pub all_one : (c : List ℕ) (at left : ℕ) → 0 < left → (p : ℕ × ℕ → Bool)
-    → all p (pairs_of left (drop at c)) ≡ p (get_or c at 0, get_or c (at + 1) 0) && all p (pairs_of (left - 1) (drop (at + pair_cells) c))
-all_one c at left more p = ap (all p) (pairs-one c at left more)
+pub row_place : (n : ℕ) (c : List ℕ) (i : ℕ) (d : ℕ × ℕ) → i < n → get_or (pairs_of n c) i d ≡ (get_or c (i * pair_cells) 0, get_or c (i * pair_cells + 1) 0)
+row_place n c i d h =
+    let l : i < length (pairs_of n c) = omega (arith, length_pairs n c) in
+    get_or_default (pairs_of n c) i d (pair_of []) l
+    ∙ get_or-map pair_of (rows_of pair_cells n c) i [] ∙ ap pair_of (rows-at pair_cells n c i [] h) ∙ pair-at c (i * pair_cells)
 
-pub all_none : (c : List ℕ) (at left : ℕ) (p : ℕ × ℕ → Bool) → left ≤ 0 → all p (pairs_of left (drop at c)) ≡ true
-all_none c at left p h = ap (all p) (pairs-none c at left h)
+pub row_within : (n : ℕ) (c : List ℕ) → RowsHeld n c → (i : ℕ) → i < n → (i * pair_cells + 1 < length c) × (length c ≡ neighbour_area_cells)
+row_within n c h i l = (omega (arith, size n c h, h.most), size n c h)
+
+pub row_number : (n : ℕ) (c : List ℕ) → RowsHeld n c → (i : ℕ) → i < n → get_or c (i * pair_cells + 1) 0 < numbers
+row_number n c h i l =
+    ltb-true (get_or c (i * pair_cells + 1) 0) numbers
+    (ap (λ (e : ℕ × ℕ). is_number e.1) (sym (row_place n c i (0, 0) l)) ∙ all-place (λ e. is_number e.1) (pairs_of n c) i (0, 0) h.numbers (omega (arith, length_pairs n c)))
+
+-- the test of each row is the test of all, and one that fails is enough
+all_each : {A : Type 0} (p : A → Bool) (xs : List A) → ((i : ℕ) (d : A) → i < length xs → p (get_or xs i d) ≡ true) → all p xs ≡ true
+all_each p [] h = refl
+all_each p (x ∷ xs) h = both (h 0 x (omega arith)) (all_each p xs (λ i d l. h (suc i) d (omega arith)))
+
+all_fails : {A : Type 0} (p : A → Bool) (xs : List A) (i : ℕ) (d : A) → i < length xs → p (get_or xs i d) ≡ false → false ≡ all p xs
+all_fails p xs i d l e = go (all p xs) refl
+  where
+    go : (t : Bool) → all p xs ≡ t → false ≡ t
+    go false h = refl
+    go true h = let y = all-place p xs i d h l in cc
+
+in-range : (n i : ℕ) → i < n → get_or (range_with_len 0 n) i 0 ≡ i
+in-range n i l = get_or-range_with_len 0 n i 0 l ∙ zero-add i
+
+pub all_by_place : (n : ℕ) (c : List ℕ) (p : ℕ × ℕ → Bool) (r : Bool)
+    → MatchBool r (AllWithin (λ i. p (get_or c (i * pair_cells) 0, get_or c (i * pair_cells + 1) 0) ≡ true) (range_with_len 0 n) 0 (length (range_with_len 0 n)))
+    ((k : ℕ) × (k < length (range_with_len 0 n)) × HoldsAt (λ i. p (get_or c (i * pair_cells) 0, get_or c (i * pair_cells + 1) 0) ≡ false) (range_with_len 0 n) k)
+    → r ≡ all p (pairs_of n c)
+all_by_place n c p true h =
+    sym (all_each p (pairs_of n c) (λ i d l. (let k : i < n = omega (arith, length_pairs n c) in
+    ap p (row_place n c i d k) ∙ subst (λ j. p (get_or c (j * pair_cells) 0, get_or c (j * pair_cells + 1) 0) ≡ true) (in-range n i k) (h i 0 (omega arith) (omega (arith, length-range_with_len 0 n))))))
+all_by_place n c p false h =
+    let k : h.0 < n = omega (arith, h.1, length-range_with_len 0 n) in
+    all_fails p (pairs_of n c) h.0 (0, 0) (omega (arith, length_pairs n c))
+    (ap p (row_place n c h.0 (0, 0) k) ∙ subst (λ j. p (get_or c (j * pair_cells) 0, get_or c (j * pair_cells + 1) 0) ≡ false) (in-range n h.0 k) (h.2 0))
 
 -- where every row stays, nothing changes
 pub all-kept : (n i last B : ℕ) (c : List ℕ) → RowsHeld n c → all (stays_after i last B) (pairs_of n c) ≡ true
@@ -93,55 +134,24 @@ all-kept n i last B c h e =
 
 -- ---- the pass that drops rows
 
-module _ (n i last B : ℕ) (before : List ℕ) where
-  -- the zeros after the rows
-  abbrev unused : List ℕ
-  unused = zeros (neighbour_most * pair_cells - length (pairs_of n before) * pair_cells)
+module _ (n : ℕ) (c : List ℕ) (h : RowsHeld n c) where
+  few : length (pairs_of n c) ≤ neighbour_most
+  few = omega (arith, length_pairs n c, h.most)
 
-  -- what holds whenever the loop's test is reached
-  abbrev pub Going : List ℕ → (kept to from left : ℕ) → Type 0
-  Going = Pass pair_row pair_cells pair-wide (stays_after i last B) (λ e. is_number e.1) (pairs_of n before) unused neighbour_most
+  -- what is known of a row that is read
+  pub row_read : (row : List ℕ) → IsRow pair_cells n c row → (length row ≡ pair_cells) × (get_or row 1 0 < numbers)
+  row_read row (i, l, e) =
+      let r = row_encodes pair_row pair_cells pair-wide neighbour_most (pairs_of n c) c h.cells few (λ x. is_number x.1) h.numbers (0, 0) i (omega (arith, length_pairs n c)) row e in
+      (ap length r.0, ltb-true (get_or row 1 0) numbers (ap (λ (x : List ℕ). is_number (get_or x 1 0)) r.0 ∙ r.1))
 
-  room : RowsHeld n before → length (pairs_of n before) ≤ neighbour_most
-  room h = omega (arith, length_pairs n before, h.most)
+  module _ (i last B : ℕ) where
+    abbrev pub row_stays : List ℕ → Bool
+    row_stays row = stays_after i last B (get_or row 0 0, get_or row 1 0)
 
-  pub start : RowsHeld n before → Going before 0 0 0 n
-  start h =
-      subst (Going before 0 0 0) (length_pairs n before)
-      (pass_start pair_row pair_cells pair-wide (stays_after i last B) (λ e. is_number e.1) (pairs_of n before) unused neighbour_most before (room h) refl h.cells h.numbers)
-
-  module _ (c : List ℕ) (kept to from left : ℕ) (w : Going c kept to from left) (more : 0 < left) where
-    abbrev next : Turn pair_row pair_cells pair-wide (stays_after i last B) (λ e. is_number e.1) (pairs_of n before) unused c kept to from left
-    next = pass_turn pair_row pair_cells pair-wide (stays_after i last B) (λ e. is_number e.1) (pairs_of n before) unused neighbour_most c kept to from left w more
-
-    -- the row that is read, as a pair
-    row_read : (get_or c from 0, get_or c (from + 1) 0) ≡ next.next
-    row_read = λ j. ((ap (λ (k : ℕ). get_or c k 0) (sym (add-zero from)) ∙ next.cell 0 (omega arith)) j, next.cell 1 (omega arith) j)
-
-    pub number_read : get_or c (from + 1) 0 < numbers
-    number_read = ltb-true (get_or c (from + 1) 0) numbers (ap (λ (e : ℕ × ℕ). is_number e.1) row_read ∙ next.passes)
-
-    pub dropped : stays_after i last B (get_or c from 0, get_or c (from + 1) 0) ≡ false → Going c kept to (from + pair_cells) (left - 1)
-    dropped e =
-        pass_dropped pair_row pair_cells pair-wide (stays_after i last B) (λ x. is_number x.1) (pairs_of n before) unused neighbour_most c kept to from left w more
-        (ap (stays_after i last B) (sym row_read) ∙ e)
-
-    pub moved : stays_after i last B (get_or c from 0, get_or c (from + 1) 0) ≡ true → (d : List ℕ) → length d ≡ length c → d ≡ written c to (take pair_cells (drop from c)) → Going d (kept + 1) (to + pair_cells) (from + pair_cells) (left - 1)
-    moved e =
-        pass_moved pair_row pair_cells pair-wide (stays_after i last B) (λ x. is_number x.1) (pairs_of n before) unused neighbour_most c kept to from left w more
-        (ap (stays_after i last B) (sym row_read) ∙ e)
-
-  pub along : {c d : List ℕ} {j k t u from left : ℕ} → d ≡ c → k ≡ j → u ≡ t → Going c j t from left → Going d k u from left
-  along = pass_along pair_row pair_cells pair-wide (stays_after i last B) (λ e. is_number e.1) (pairs_of n before) unused
-
-  -- at the end: the gap cleared leaves the rows that stay
-  module _ (c : List ℕ) (kept to from left : ℕ) (h : RowsHeld n before) (w : Going c kept to from left) (end : left ≤ 0) where
-    pub kept-rows : kept ≡ length (keep (stays_after i last B) (pairs_of n before))
-    kept-rows = (pass_done pair_row pair_cells pair-wide (stays_after i last B) (λ e. is_number e.1) (pairs_of n before) unused neighbour_most c kept to from left refl (room h) w end).held
-
-    pub left-rows : (z : List ℕ) → z ≡ zeros (length (take (from - to) (drop to c))) → put_mid to (from - to) c z ≡ pair_area neighbour_most (keep (stays_after i last B) (pairs_of n before))
-    left-rows = pass_left pair_row pair_cells pair-wide (stays_after i last B) (λ e. is_number e.1) (pairs_of n before) unused neighbour_most c kept to from left refl (room h) w end
-
-    pub left-size : (z : List ℕ) → z ≡ zeros (length (take (from - to) (drop to c))) → length (put_mid to (from - to) c z) ≡ length before
-    left-size z e =
-        pass_size pair_row pair_cells pair-wide (stays_after i last B) (λ x. is_number x.1) (pairs_of n before) unused neighbour_most c kept to from left refl (room h) w end z e ∙ sym (size n before h)
+    pub rows_kept : (d : List ℕ) (k : ℕ) → (d ≡ kept_rows row_stays pair_cells n c) × (k ≡ length (keep row_stays (rows_of pair_cells n c)))
+        → (d ≡ pair_area neighbour_most (keep (stays_after i last B) (pairs_of n c))) × (k ≡ length (keep (stays_after i last B) (pairs_of n c)))
+    rows_kept d k (cells, held) =
+        let n' = sym (length_pairs n c) in (
+          cells ∙ ap (λ (m : ℕ). kept_rows row_stays pair_cells m c) n' ∙ kept_area pair_row pair_cells pair-wide neighbour_most (pairs_of n c) c h.cells few row_stays,
+          held ∙ ap (λ (m : ℕ). length (keep row_stays (rows_of pair_cells m c))) n' ∙ kept_length pair_row pair_cells pair-wide neighbour_most (pairs_of n c) c h.cells few row_stays,
+        )

@@ -1,13 +1,11 @@
 -- The neighbour rows in their area of cells: pairs of a link and the number recorded for it.
-use Rattle.std.specs.Prelude.{ℕ, ◌<◌, ◌≤◌, ◌≡◌, ◌⊎◌, Bool, true, false, not, ◌||◌, List, ltb, eqb, length}
+use Rattle.std.specs.Prelude.{ℕ, Option, Some, None, ◌<◌, ◌≤◌, ◌≡◌, ◌⊎◌, Bool, true, false, not, ◌||◌, List, ltb, eqb, length}
 use Rattle.lists.specs.Lists.{all}
 use Rattle.lists.specs.Keyed.{has_key, put, rising}
 use Rattle.cells.specs.Pairs.{pair_area, pairs_of}
 use Rattle.window.specs.Window.{distance}
 use Rattle.rules.specs.Settings.{neighbour_most, is_number}
 use Rattle.rules.specs.Calls.{interface_of}
-use Rattle.table_neighbours.specs.declared.Echo.{Echo}
-use Rattle.table_neighbours.specs.declared.Echo.TheVariants.{Rows, Full}
 
 -- what is known of the area in a well-formed table: n rows that rise by link, each with a sequence number, and zeros after them
 pub record RowsHeld (n : ℕ) (c : List ℕ) : Type 0 where
@@ -27,9 +25,9 @@ pub record NoRoom (n : ℕ) (before after : List ℕ) (link : ℕ) : Type 0 wher
   pub full : neighbour_most ≤ n
   pub same : after ≡ before
 
-abbrev pub EchoTaken : (n : ℕ) (before after : List ℕ) (link number : ℕ) → Echo → Type 0
-EchoTaken n before after link number (Rows m) = Recorded n before after link number m
-EchoTaken n before after link number Full = NoRoom n before after link
+abbrev pub EchoTaken : (n : ℕ) (before after : List ℕ) (link number : ℕ) → Option ℕ → Type 0
+EchoTaken n before after link number (Some m) = Recorded n before after link number m
+EchoTaken n before after link number None = NoRoom n before after link
 
 -- a row that stays when interface i has sent its number `last`: another interface's, or not B or more behind
 abbrev pub stays_after : (i last B : ℕ) → ℕ × ℕ → Bool

@@ -32,6 +32,8 @@ use Rattle.table_layout.proofs.Parts.{wide-interfaces, wide_rows, encoded-size, 
 use Rattle.table_changes.proofs.Parts.{records_back}
 use Rattle.table_changes.proofs.Sent.{run_back}
 use Rattle.rules.proofs.WellFormed.{Wf, parts}
+use Rattle.std.specs.Prelude.{Result}
+use Rattle.wire.specs.declared.refusals.Refusal.{Refusal}
 use Rattle.hear_message.specs.declared.Heard.{Heard}
 use Rattle.hear_message.specs.Hearing.{is_taken, Answers, HeardIn}
 use Rattle.table_originators.specs.Originators.{record_place, Stands, Missing, standing_at, counted_at, LiesAt, HeardAt}
@@ -137,7 +139,7 @@ module _ (c : List ℕ) (o i : ℕ) where
     lent_is = part_is c (record_place i) record_cells s.holds.fits
 
     -- what a message leaves of it
-    pub heard_in : (m : Message) (b : Bool) (y : List ℕ) (r : Heard) → HeardIn (decode c).config m b (take (record_place i + record_cells - record_place i) (drop (record_place i) c)) y r
+    pub heard_in : (m : Message) (b : Bool) (y : List ℕ) (r : Result Heard Refusal) → HeardIn (decode c).config m b (take (record_place i + record_cells - record_place i) (drop (record_place i) c)) y r
         → HeardAt c (put_mid (record_place i) (record_place i + record_cells - record_place i) c y) o i m b r
     heard_in m b y r w =
         let κ = (decode c).config in

@@ -7,8 +7,7 @@ use lib.ListN.{length, take, drop, get_or}
 use lib.Seq.{get_or-drop}
 use Rattle.cells.specs.Area.{column, rows_of}
 use Rattle.cells.specs.Find.{Sorted, IsAt, IsPlace, FoundIn, Searched}
-use Rattle.cells.specs.declared.Found.{Found}
-use Rattle.cells.specs.declared.Found.TheVariants.{At, Place}
+use Rattle.std.specs.Prelude.{Result, Ok, Err}
 use Rattle.cells.specs.declared.SearchResult.{SearchResult}
 use Rattle.cells.proofs.Keys.{keys_decoded, row-key, length-column, get_or_column}
 use Rattle.cells.proofs.Lent.{tail_is}
@@ -55,9 +54,9 @@ module _ (c : List ℕ) (k : Knows c) where
     unfolding decode
     missing p = record { knows = k; place = p; none = record_missing c k o i (subst (λ (ks : List ℕ). IsPlace ks o i) (sym (keys_held c)) p) }
 
-  found_record : (o : ℕ) (f : Found) → FoundIn (held_by (decode c)) o f → RecordFound c o f
-  found_record o (At i) q = stands o i q
-  found_record o (Place i) q = missing o i q
+  found_record : (o : ℕ) (f : Result ℕ ℕ) → FoundIn (held_by (decode c)) o f → RecordFound c o f
+  found_record o (Ok i) q = stands o i q
+  found_record o (Err i) q = missing o i q
 
   -- there are fewer than 2^9 records
   held-few : length (held_by (decode c)) < 2 ^ rounds_most

@@ -3,11 +3,11 @@ use Rattle.std.specs.Prelude.{ℕ, ◌+◌, ◌*◌, ◌≤◌, ◌≡◌, Bool,
 use Rattle.std.proofs.Math.Option.{none, some}
 use Rattle.lists.specs.Keyed.{lookup, put}
 use Rattle.cells.specs.Find.{IsAt, IsPlace, Halving}
-use Rattle.cells.specs.declared.Found.{Found}
-use Rattle.cells.specs.declared.Found.TheVariants.{At, Place}
+use Rattle.std.specs.Prelude.{Result, Ok, Err}
 use Rattle.cells.specs.declared.SearchResult.{SearchResult}
 use Rattle.window.specs.declared.Position.{Position}
 use Rattle.window.specs.Window.{position}
+use Rattle.wire.specs.declared.refusals.Refusal.{Refusal}
 use Rattle.rules.specs.Messages.{Message}
 use Rattle.rules.specs.declared.Route.{Route}
 use Rattle.rules.specs.Settings.{record_cells}
@@ -48,9 +48,9 @@ pub record Missing (c : List ℕ) (o i : ℕ) : Type 0 where
   pub place : IsPlace (held_by (decode c)) o i
   pub none : lookup o (decode c).records ≡ none
 
-abbrev pub RecordFound : List ℕ → (o : ℕ) → Found → Type 0
-RecordFound c o (At i) = Stands c o i
-RecordFound c o (Place i) = Missing c o i
+abbrev pub RecordFound : List ℕ → (o : ℕ) → Result ℕ ℕ → Type 0
+RecordFound c o (Ok i) = Stands c o i
+RecordFound c o (Err i) = Missing c o i
 
 -- the most rounds that a search for an originator takes
 abbrev pub rounds_most : ℕ
@@ -75,7 +75,7 @@ abbrev pub LiesAt : List ℕ → (i n : ℕ) → Position → Type 0
 LiesAt c i n q = q ≡ position (decode c).config.settings.window (standing_at c i).current n
 
 -- what is answered of a message to the record of o, and the cells d that it leaves: where it is taken, those of the table with the next record
-pub record HeardAt (c d : List ℕ) (o i : ℕ) (m : Message) (bidirectional : Bool) (r : Heard) : Type 0 where
+pub record HeardAt (c d : List ℕ) (o i : ℕ) (m : Message) (bidirectional : Bool) (r : Result Heard Refusal) : Type 0 where
   pub answers : Answers (decode c).config m bidirectional (standing_at c i) r
   pub cells : d ≡ cond (is_taken (decode c).config m bidirectional (standing_at c i)) (encode (with_records (put o (counted_at c i m) (decode c).records) (decode c))) c
 

@@ -20,6 +20,7 @@ use rules::{Ogm, Policy, Route};
 use table_layout::{RECORDS, RECORDS_FROM, TIE, WINDOW};
 use table_record::{CURRENT, WIDTH};
 use window::{Position, sequence_test};
+use wire::refusals::Refusal;
 
 // What counting is told of the table's settings.
 pub fn policy_of(cells: &[u64]) -> Policy
@@ -72,7 +73,7 @@ pub fn hear_at(
     hna: &[u8],
     bidirectional: bool,
     position: Position,
-) -> Heard
+) -> Result<Heard, Refusal>
     requires { Holds cells.old i × (is_address (neighbour_of m.link) ≡ true) × LiesAt cells.old i m.sequence position × (is_stale position ≡ false) }
     ensures { (o : ℕ) → Stands cells.old o i → HeardAt cells.old cells.new o i (message_of m hna.now) bidirectional result }
 {

@@ -14,7 +14,7 @@ ghost use Rattle.rules.specs.Table.{table, marks_at};
 ghost use Rattle.table_record.specs.Links.{link_row, links_from, link_at};
 ghost use Rattle.table_record.specs.Record.{links_part, entries_part, decode_record, Held};
 
-use cells::{Found, find};
+use cells::find;
 use rules::Route;
 use rules::limits::{ENTRIES_MOST, INTERFACES_MOST, LINKS_MOST};
 use window::{Marks, count, no_marks};
@@ -102,10 +102,9 @@ pub fn marks_of(part: &[u64], n: usize, key: u64) -> Marks
     requires { Sorted link_cells n part.now }
     ensures { word_of result ≡ marks_at (links_from n part.now) key }
 {
-    let f = find(part, LINK, n, key).found;
-    match f {
-        Found::At(i) => marks_at(part, i),
-        Found::Place(_) => no_marks(),
+    match find(part, LINK, n, key).found {
+        Ok(i) => marks_at(part, i),
+        Err(_) => no_marks(),
     }
 }
 

@@ -1,6 +1,6 @@
 -- The check of a record is the tests of RULES 5.3 on it. Assumes nothing.
 use mathlib.Core.Path.{◌≡◌, refl, sym, ap, ◌∙◌}
-use mathlib.Core.List.{List, ◌∷◌}
+use mathlib.Core.List.{List, [], ◌∷◌}
 use mathlib.Core.Bool.{Bool, true, false, false≢true, cond, ◌&&◌, ◌||◌, not, and-true, and_assoc, or_assoc, or-false}
 use mathlib.Core.Option.{some}
 use Prim.Native.Nat.{ℕ, zero, suc, ◌+◌, ◌*◌, ◌-◌, ◌/◌, ◌%◌, ◌^◌, ◌≤◌, ◌<◌}
@@ -10,7 +10,8 @@ use lib.Dec.{leb, ltb, eqb}
 use lib.ListN.{take, drop, get_or}
 use lib.Pow.{pow_pos}
 use borrow.Author.Tests.{lt-ltb, ltb-true, ltb-false, leb-true, leb-false, eq-eqb, ne_eqb}
-use Rattle.lists.specs.Lists.{and, all, maybe}
+use Rattle.std.specs.List.{list_any}
+use Rattle.lists.specs.Lists.{and, all, elem, maybe}
 use Rattle.lists.specs.Keyed.{lookup, has_key, rising}
 use Rattle.cells.specs.Area.{all_zero, rows_of, scan}
 use Rattle.lists.proofs.Tests.{and_left, and_right}
@@ -19,22 +20,23 @@ use Rattle.cells.proofs.Keys.{scan-next, scan_stop, scan_end, scan_is}
 use Rattle.window.specs.Window.{has_mark}
 use Rattle.wire.specs.Layout.{mask_most}
 use Rattle.wire.specs.Entries.{network_of, mask_of}
-use Rattle.rules.specs.Settings.{Config, link_cells, interface_most, addresses, octets}
+use Rattle.rules.specs.Settings.{Config, link_cells, interface_most, addresses}
 use Rattle.rules.specs.Calls.{interface_of, pairs}
 use Rattle.rules.specs.WellFormed.{link_tests, entry_tests, entries_ok, field_tests}
 use Rattle.table_record.proofs.Rows.{small-pair}
 use Rattle.table_record.proofs.Links.{link-key, key_cell, links_left, left-all, left_one, left-none}
-use Rattle.table_record_check.specs.declared.Limits.{Limits}
+use Rattle.table_record_check.specs.declared.record_limits.Limits.{Limits}
 use Rattle.table_record.specs.Links.{link_in, links_from, link_at}
 use Rattle.table_record.specs.Record.{address_at, best_at, links_of, entries_in, decode_record, unused_links, unused_entries, record_ok}
-use Rattle.table_record_check.specs.Limits.{Describes, fields_ok, marks_ok, links_ok, links_part_ok, entries_part_ok}
+use Rattle.table_record_check.specs.Limits.{Describes, fields_ok, marks_ok, links_ok, links_part_ok, entry_fault, entries_part_ok}
 
-pub or_end : (a b c d : Bool) → a || (b || (c || d)) ≡ a || (b || (c || (d || false)))
-or_end true b c d = refl
-or_end false true c d = refl
-or_end false false true d = refl
-or_end false false false true = refl
-or_end false false false false = refl
+-- an address is found among others by comparing each with it
+any-sym : (a b : ℕ) → eqb a b ≡ eqb b a
+any-sym a b = grind arith
+
+pub any-elem : (a : ℕ) (xs : List ℕ) → list_any (λ y. eqb y a) xs ≡ elem a xs
+any-elem a [] = refl
+any-elem a (x ∷ xs) = λ i. any-sym x a i || any-elem a xs i
 
 -- ---- a link
 
@@ -126,18 +128,15 @@ links-done κ best part n t h et eh =
 
 -- ---- the entries
 
--- what is beyond an address before the mask, and what a mask that is too long carries over
-pub entry-tests : (e : ℕ) → eqb (e / (addresses * octets) + (e % octets + (octets - 1 - mask_most)) / octets) 0 ≡ and (entry_tests e)
+-- an entry without a fault passes
+pub entry-tests : (e : ℕ) → eqb (entry_fault e) 0 ≡ and (entry_tests e)
 unfolding network_of mask_of
 entry-tests e = go (ltb (e / 256) addresses) refl (leb (e % 256) mask_most) refl
   where
-    fault : ℕ
-    fault = e / (addresses * octets) + (e % octets + (octets - 1 - mask_most)) / octets
-
-    go : (a : Bool) → ltb (e / 256) addresses ≡ a → (b : Bool) → leb (e % 256) mask_most ≡ b → eqb fault 0 ≡ a && (b && true)
-    go true p true q = eq-eqb fault 0 (omega (arith, ltb-true (e / 256) addresses p, leb-true (e % 256) mask_most q))
-    go true p false q = ne_eqb fault 0 (omega (arith, leb-false (e % 256) mask_most q))
-    go false p b q = ne_eqb fault 0 (omega (arith, ltb-false (e / 256) addresses p))
+    go : (a : Bool) → ltb (e / 256) addresses ≡ a → (b : Bool) → leb (e % 256) mask_most ≡ b → eqb (entry_fault e) 0 ≡ a && (b && true)
+    go true p true q = eq-eqb (entry_fault e) 0 (omega (arith, ltb-true (e / 256) addresses p, leb-true (e % 256) mask_most q))
+    go true p false q = ne_eqb (entry_fault e) 0 (omega (arith, leb-false (e % 256) mask_most q))
+    go false p b q = ne_eqb (entry_fault e) 0 (omega (arith, ltb-false (e / 256) addresses p))
 
 -- ---- the whole record
 

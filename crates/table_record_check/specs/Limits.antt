@@ -1,16 +1,17 @@
 -- What a record's cells are held to, as the check carries it along.
-use Rattle.std.specs.Prelude.{◌≡◌, List, [], ◌∷◌, Bool, true, ◌&&◌, ◌||◌, ℕ, ◌^◌, ◌≤◌, ◌<◌, leb, ltb, eqb, length, get_or}
+use Rattle.std.specs.Prelude.{◌≡◌, List, Bool, true, ◌&&◌, ◌||◌, ℕ, ◌+◌, ◌*◌, ◌-◌, ◌/◌, ◌%◌, ◌^◌, ◌≤◌, ◌<◌, leb, ltb, eqb, length, get_or}
 use Rattle.lists.specs.Lists.{and, elem}
 use Rattle.cells.specs.Area.{all_zero}
 use Rattle.window.specs.Window.{has_mark}
-use Rattle.rules.specs.Settings.{Config, link_most, entry_most, window_most, addresses, is_own}
+use Rattle.wire.specs.Layout.{mask_most}
+use Rattle.rules.specs.Settings.{Config, link_most, entry_most, addresses, octets, is_own}
 use Rattle.rules.specs.Calls.{pairs}
 use Rattle.rules.specs.WellFormed.{link_tests, entries_ok, field_tests, links_tests}
-use Rattle.table_record_check.specs.declared.Limits.{Limits}
+use Rattle.table_record_check.specs.declared.record_limits.Limits.{Limits}
 use Rattle.table_record.specs.Record.{address_at, links_at, best_at, entries_at, links_of, entries_in, decode_record, unused_links, unused_entries, record_ok}
 
 abbrev pub own_of : Limits → List ℕ
-own_of l = l.own_0 ∷ l.own_1 ∷ l.own_2 ∷ l.own_3 ∷ []
+own_of l = l.own
 
 -- the limits are those of a table
 pub record Describes (κ : Config) (now : ℕ) (l : Limits) : Type 0 where
@@ -18,11 +19,6 @@ pub record Describes (κ : Config) (now : ℕ) (l : Limits) : Type 0 where
   pub used : l.used ≡ length κ.interfaces
   pub time : l.time ≡ now
   pub own : (a : ℕ) → elem a (own_of l) ≡ is_own κ a
-
--- a window size that is allowed
-pub record Windowed (l : Limits) : Type 0 where
-  pub least : 1 ≤ l.window
-  pub most : l.window ≤ window_most
 
 -- the tests of the fields before links and entries, where addresses below `low` are passed
 abbrev pub fields_ok : Config → (now low : ℕ) → List ℕ → Bool
@@ -39,6 +35,10 @@ links_ok κ best ls = and (links_tests κ best ls)
 -- the cells of a record's links, and those of its entries: what they hold may be held, and zeros behind it
 abbrev pub links_part_ok : Config → List ℕ → Bool
 links_part_ok κ row = links_ok κ (get_or row best_at 0) (links_of row) && all_zero (unused_links row)
+
+-- what is beyond an address before an entry's mask, and what a mask that is too long carries over
+abbrev pub entry_fault : (entry : ℕ) → ℕ
+entry_fault e = e / (addresses * octets) + (e % octets + (octets - 1 - mask_most)) / octets
 
 abbrev pub entries_part_ok : List ℕ → Bool
 entries_part_ok row = entries_ok (entries_in row) && all_zero (unused_entries row)

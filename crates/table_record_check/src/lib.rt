@@ -1,6 +1,8 @@
 // The check of one originator's record, which the check of a table makes of each.
 #![tactic(auto)]
 
+mod record_limits;
+
 ghost use Rattle.std.specs.Prelude.{◌≡◌, ℕ, ◌*◌, ◌≤◌, eqb, length, get_or};
 ghost use Rattle.lists.specs.Lists.{and, elem};
 ghost use Rattle.cells.specs.Area.{fit};
@@ -9,9 +11,10 @@ ghost use Rattle.rules.specs.Settings.{Config, window_most, link_most, entry_mos
 ghost use Rattle.rules.specs.WellFormed.{entry_tests, entries_ok};
 ghost use Rattle.table_record.specs.Links.{links_from};
 ghost use Rattle.table_record.specs.Record.{links_at, entries_at};
-ghost use Rattle.table_record_check.specs.Limits.{Describes, Windowed, own_of, marks_ok, links_ok, links_part_ok, entries_part_ok, FieldsChecked, LinkChecked, RecordChecked};
+ghost use Rattle.table_record_check.specs.Limits.{Describes, own_of, marks_ok, links_ok, links_part_ok, entry_fault, entries_part_ok, FieldsChecked, LinkChecked, RecordChecked};
 
 use cells::all_zero;
+pub use record_limits::Limits;
 use rules::limits::{
     ADDRESSES, ENTRIES_MOST, ENTRY_VALUES, INTERFACES_MOST, LINKS_MOST, OCTETS, PAIRS,
 };
@@ -22,22 +25,10 @@ use table_record::{
 use window::{Marks, NUMBERS, fits, has_mark};
 use wire::MASK_MOST;
 
-// What a record is held to: window, interfaces in use, the table's time, and the own addresses, the first again for each that is not in use.
-#[derive(Clone, Copy)]
-pub struct Limits {
-    pub window: u64,
-    pub used: u64,
-    pub time: u64,
-    pub own_0: u64,
-    pub own_1: u64,
-    pub own_2: u64,
-    pub own_3: u64,
-}
-
 fn is_own(limits: Limits, a: u64) -> bool
     ensures { result ≡ elem a (own_of limits) }
 {
-    (a == limits.own_0) | ((a == limits.own_1) | ((a == limits.own_2) | (a == limits.own_3)))
+    limits.own.contains(&a)
 }
 
 // Whether a link may have these marks: none outside the window, and one at least unless it is best. The first test is nearly always met.
@@ -53,7 +44,6 @@ fn marks_ok(window: u64, best: u64, pair: u64, marks: Marks) -> bool
 
 // Whether a link may be held, where pairs below `low` are passed.
 fn link_ok(limits: Limits, best: u64, low: u64, pair: u64, marks: Marks) -> bool
-    requires { Windowed limits }
     ensures { LinkChecked limits best low pair (word_of marks) result }
 {
     if !((low <= pair) & ((pair < PAIRS) & (pair % INTERFACES_MOST < limits.used))) {
@@ -62,26 +52,22 @@ fn link_ok(limits: Limits, best: u64, low: u64, pair: u64, marks: Marks) -> bool
     marks_ok(limits.window, best, pair, marks)
 }
 
-// Whether the links may be held: each by itself, rising by the pair, best among them. Where the loop breaks off some are left, so nothing is kept of where.
+// Whether the links may be held: each by itself, rising by the pair, best among them.
 fn links_ok(part: &[u64], n: usize, limits: Limits, best: u64) -> bool
-    requires { (n * link_cells ≤ length part.now) × Windowed limits }
+    requires { n * link_cells ≤ length part.now }
     ensures { (κ : Config) (time : ℕ) → Describes κ time limits → result ≡ links_ok κ best (links_from n part.now) }
 {
-    let mut low: u64 = 0;
+    let mut low = 0;
     let mut held = false;
-    let mut i = 0;
-    let mut left = n;
-    while 0 < left {
+    for i in 0..n {
         let pair = key_at(part, i);
         if !link_ok(limits, best, low, pair, marks_at(part, i)) {
-            break;
+            return false;
         }
-        held = held | (best == pair);
+        held |= best == pair;
         low = pair + 1;
-        i += 1;
-        left -= 1;
     }
-    (left == 0) & held
+    held
 }
 
 // Whether the fields before links and entries are in their ranges, where addresses below `low` are passed. They are read as the cells lie.
@@ -106,7 +92,8 @@ const MASK_SPARE: u64 = OCTETS - 1 - MASK_MOST as u64;
 
 // 0 exactly for an entry that a record may keep: its network is an address, and its mask is not too long.
 fn entry_fault(entry: u64) -> u64
-    ensures { eqb result 0 ≡ and (entry_tests entry) }
+    ensures value { result ≡ entry_fault entry }
+    ensures tests { eqb result 0 ≡ and (entry_tests entry) }
 {
     entry / ENTRY_VALUES + (entry % OCTETS + MASK_SPARE) / OCTETS
 }
@@ -117,18 +104,16 @@ fn entries_ok(part: &[u64], n: usize) -> bool
     requires { n ≤ length part.now }
     ensures { result ≡ entries_ok (fit n part.now) }
 {
-    let mut bits: u64 = 0;
-    let mut i = 0;
-    while i < n {
-        bits = bits | entry_fault(part[i]);
-        i += 1;
+    let mut faults = 0;
+    for &entry in &part[..n] {
+        faults |= entry_fault(entry);
     }
-    bits == 0
+    faults == 0
 }
 
 // Whether the cells of the links are those of links that may be held, and zeros behind them.
 fn links_part_ok(row: &[u64], limits: Limits) -> bool
-    requires { (length row.now ≡ record_cells) × Windowed limits × (get_or row.now links_at 0 ≤ link_most) }
+    requires { (length row.now ≡ record_cells) × (get_or row.now links_at 0 ≤ link_most) }
     ensures { (κ : Config) (time : ℕ) → Describes κ time limits → result ≡ links_part_ok κ row.now }
 {
     let part = links_part(row);
@@ -149,7 +134,7 @@ fn entries_part_ok(row: &[u64]) -> bool
 
 // Whether the cells are those of a record by the rules, where addresses below `low` are passed.
 pub fn record_ok(row: &[u64], low: u64, limits: Limits) -> bool
-    requires { (length row.now ≡ record_cells) × Windowed limits }
+    requires { length row.now ≡ record_cells }
     ensures { RecordChecked limits low row.now result }
 {
     if !fields_ok(row, low, limits) {

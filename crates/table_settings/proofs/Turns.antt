@@ -1,21 +1,20 @@
--- The interface rows in the cells, and a turn of the loop over them. Assumes nothing.
+-- The interface rows in the cells. Assumes nothing.
 use mathlib.Core.Path.{◌≡◌, refl, sym, ap, ◌∙◌, subst}
 use mathlib.Core.List.{List, []}
-use mathlib.Core.Bool.{Bool, true, false, ◌&&◌}
+use mathlib.Core.Bool.{Bool, true, false}
 use Prim.Native.Nat.{ℕ, ◌+◌, ◌*◌, ◌-◌, ◌≤◌, ◌<◌}
 use native.Mathlib.Nat.{mul-le-mul_right}
 use native.Mathlib.Omega.{arith}
 use lib.Dec.{ltb}
-use lib.ListN.{length, take, drop, get_or}
+use lib.ListN.{take, drop, get_or}
 use lib.Seq.{get_or-drop}
 use borrow.Author.Tests.{ltb-true, ltb-false}
 use Rattle.lists.specs.Lists.{all}
 use Rattle.cells.specs.Area.{rows_of}
 use Rattle.lists.proofs.Tests.{and_left, and_right, and_at}
 use Rattle.cells.proofs.Bools.{all-place}
-use Rattle.cells.proofs.Keys.{row_cell, all-next, all_stop, all_end}
+use Rattle.cells.proofs.Keys.{row_cell}
 use Rattle.cells.proofs.Trips.{rows-at, zero_at, length-rows_of}
-use Rattle.cells.proofs.Lent.{part_is}
 use Rattle.window.specs.Window.{numbers}
 use Rattle.rules.specs.Settings.{interface_most, interface_cells}
 use Rattle.table_layout.specs.Layout.{used_at, last_at, interfaces_from, own_place, interface_part}
@@ -58,21 +57,3 @@ numbered c few h = record { last = λ i k. go i k (ltb i (get_or c used_at 0)) r
         let v : get_or c (own_place i + last_at) 0 ≡ 0 =
         ap (λ (k : ℕ). get_or c k 0) (sym g) ∙ sym (interface_cell c (i * w + last_at) (omega arith)) ∙ ap (λ (k : ℕ). get_or (interface_part c) k 0) (sym f) ∙ sym (get_or-drop (n * w) (interface_part c) j 0) ∙ z in
         omega arith
-
-module _ (c : List ℕ) (at left : ℕ) (within : at + interface_cells ≤ length c) (t : Bool) (e : t ≡ interface_row_ok (take (at + interface_cells - at) (drop at c))) where
-  this_row : interface_row_ok (take interface_cells (drop at c)) ≡ t
-  this_row = sym (e ∙ ap interface_row_ok (part_is c at interface_cells within))
-
-  pub interfaces-next : 0 < left → t ≡ true → all interface_row_ok (rows_of interface_cells left (drop at c)) ≡ all interface_row_ok (rows_of interface_cells (left - 1) (drop (at + interface_cells) c))
-  interfaces-next h k = all-next interface_row_ok interface_cells c at left h (this_row ∙ k)
-
-  pub interfaces_stop : 0 < left → t ≡ false → all interface_row_ok (rows_of interface_cells left (drop at c)) ≡ false
-  interfaces_stop h k = all_stop interface_row_ok interface_cells c at left h (this_row ∙ k)
-
-pub interfaces_end : (c : List ℕ) (at left : ℕ) → left ≤ 0 → all interface_row_ok (rows_of interface_cells left (drop at c)) ≡ true
-interfaces_end c at left h = all_end interface_row_ok interface_cells c at left h
-
--- the first test decides, and the second is only asked for after it
-pub first_then : (t z u v : Bool) → t ≡ v → (t ≡ true → z ≡ u) → t && z ≡ v && u
-first_then true z u v e f = f refl ∙ ap (λ (b : Bool). b && u) e
-first_then false z u v e f = ap (λ (b : Bool). b && u) e

@@ -93,17 +93,8 @@ fn interface_rows_ok(part: &[u64], used: usize) -> bool
     requires { used * interface_cells ≤ length part.now }
     ensures { result ≡ all interface_row_ok (rows_of interface_cells used part.now) && all_zero (drop (used * interface_cells) part.now) }
 {
-    let mut at = 0;
-    let mut left = used;
-    while 0 < left {
-        let end = at + INTERFACE;
-        if !interface_row_ok(&part[at..end]) {
-            break;
-        }
-        at = end;
-        left -= 1;
-    }
-    (left == 0) & all_zero(&part[at..])
+    let (rows, unused) = part.split_at(used * INTERFACE);
+    rows.chunks_exact(INTERFACE).all(interface_row_ok) & all_zero(unused)
 }
 
 // Whether the interface rows are a table's: in their ranges, the own addresses in use different, the unused rows zero.

@@ -1,5 +1,5 @@
 // Sequence numbers modulo 65,536 and a link's window of marks.
-#![tactic(auto)]
+#![tactic(auto, unfolding(crate::specs::Marks::word_of, crate::specs::Window::bit, crate::specs::Window::distance))]
 
 ghost use Rattle.std.specs.Prelude.{◌≡◌, true, ◌&&◌, ◌≤◌, ◌<◌, ◌^◌, ltb};
 ghost use Rattle.window.specs.Window as W;
@@ -15,7 +15,7 @@ pub const NUMBERS: u64 = 65536;
 const HALF_WAY: u64 = NUMBERS / 2;
 
 // Where a number lies beside a window.
-#[derive(Clone, Copy)]
+#[derive(Clone, Copy, Debug, PartialEq, Eq)]
 pub enum Position {
     New,
     Inside,
@@ -23,7 +23,7 @@ pub enum Position {
 }
 
 // A link's marks: bit k of the word is the mark of the number k below current.
-#[derive(Clone, Copy)]
+#[derive(Clone, Copy, Debug, Default, PartialEq, Eq)]
 pub struct Marks {
     pub word: u64,
 }
@@ -53,31 +53,19 @@ pub fn sequence_test(w: u64, current: u16, n: u16) -> Position
 pub fn is_new(p: Position) -> bool
     ensures { result ≡ W.is_new p }
 {
-    match p {
-        Position::New => true,
-        Position::Inside => false,
-        Position::Stale => false,
-    }
+    p == Position::New
 }
 
 pub fn is_inside(p: Position) -> bool
     ensures { result ≡ W.is_inside p }
 {
-    match p {
-        Position::New => false,
-        Position::Inside => true,
-        Position::Stale => false,
-    }
+    p == Position::Inside
 }
 
 pub fn is_stale(p: Position) -> bool
     ensures { result ≡ W.is_stale p }
 {
-    match p {
-        Position::New => false,
-        Position::Inside => false,
-        Position::Stale => true,
-    }
+    p == Position::Stale
 }
 
 // The current number once n, which lies so beside the window, is counted.
@@ -91,7 +79,7 @@ pub fn advance(p: Position, current: u16, n: u16) -> u16
 pub fn no_marks() -> Marks
     ensures { word_of result ≡ 0 }
 {
-    Marks { word: 0 }
+    Marks::default()
 }
 
 // Whether the number k below current is marked.

@@ -1,5 +1,5 @@
 -- How large a refusal's numbers are: a number of at most `number_most`, and a place of at most m. Assumes nothing.
-use mathlib.Core.Path.{◌≡◌, refl}
+use mathlib.Core.Path.{◌≡◌, refl, subst}
 use mathlib.Core.Bool.{Bool, true, false, not, ◌||◌, ◌&&◌, or-true}
 use mathlib.Core.List.{List, [], ◌∷◌}
 use mathlib.Core.Option.{Option, none, some}
@@ -13,7 +13,7 @@ use Rattle.lists.proofs.Tests.{and_left, and_right}
 use Rattle.wire.specs.declared.Fault.{Fault}
 use Rattle.wire.specs.Layout.{header_size, entry_size, packet_most, version_at}
 use Rattle.wire.specs.Packet.{octet, hna}
-use Rattle.wire.specs.Check.{placed, given, first_of, fault_of, entries, first_breaking, entry_fault, bad_mask, host_bits_set, hna_faults, hna_fault, packet_faults, packet_fault}
+use Rattle.wire.specs.Check.{placed, given, first_of, entries, first_breaking, entry_fault, bad_mask, host_bits_set, hna_faults, hna_fault, packet_faults, packet_fault}
 use Rattle.wire.proofs.Search.{below}
 
 -- the last of the refusals that rest on a packet's octets
@@ -84,14 +84,11 @@ pub record Small (m : ℕ) (f : Fault) : Type 0 where
   pub number : f.number ≤ number_most
   pub place : f.place ≤ m
 
-pub packet-small : (v : ℕ) (p : List ℕ) → Small packet_most (fault_of (packet_fault v p))
+pub packet-small : (v : ℕ) (p : List ℕ) (f : Fault) → packet_fault v p ≡ some f → Small packet_most f
 unfolding is_small
-packet-small v p = go (packet_fault v p) (small-packet v p)
-  where
-    go : (x : Option Fault) → is_small packet_most x ≡ true → Small packet_most (fault_of x)
-    go none h = record { number = omega arith; place = omega arith }
-    go (some f) h =
-        record {
-          number = leb-true f.number number_most (and_left (leb f.number number_most) (leb f.place packet_most) h);
-          place = leb-true f.place packet_most (and_right (leb f.number number_most) (leb f.place packet_most) h);
-        }
+packet-small v p f e =
+    let h : is_small packet_most (some f) ≡ true = subst (λ (x : Option Fault). is_small packet_most x ≡ true) e (small-packet v p) in
+    record {
+      number = leb-true f.number number_most (and_left (leb f.number number_most) (leb f.place packet_most) h);
+      place = leb-true f.place packet_most (and_right (leb f.number number_most) (leb f.place packet_most) h);
+    }

@@ -5,3 +5,4 @@ pub mod Order
 pub mod Faults
 pub mod Lent
 pub mod Laws
+pub mod Refused

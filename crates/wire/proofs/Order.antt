@@ -8,77 +8,64 @@ use borrow.Author.Tests.{le-ltb, lt-ltb, eq-eqb, ne_eqb}
 use lib.ListN.{length}
 use Rattle.lists.specs.Lists.{maybe}
 use Rattle.wire.specs.declared.Fault.{Fault}
-use Rattle.wire.specs.declared.Place.TheVariants.{At, Nowhere}
 use Rattle.wire.specs.Layout.{header_size, entry_size, packet_most, version_at}
 use Rattle.wire.specs.Packet.{octet, hna}
-use Rattle.wire.specs.Check.{numbered, placed, fault_of, first_breaking, bad_mask, host_bits_set, hna_fault, packet_fault, written_fault}
-use Rattle.wire.specs.Place.{place_of}
+use Rattle.wire.specs.Check.{numbered, placed, first_breaking, bad_mask, host_bits_set, hna_fault, packet_fault, written_fault}
 
 -- the last of a list stands for itself
-last : (x : Option Fault) → fault_of x ≡ fault_of (maybe {X = Option Fault} x none some)
+last : (x : Option Fault) → x ≡ maybe {X = Option Fault} x none some
 last none = refl
 last (some f) = refl
 
--- a place that was answered, or none, is the one that was asked for
-found_at : (x : Option ℕ) (k : ℕ) → At k ≡ place_of x → x ≡ some k
-found_at none k p = absurd (let z : ◌≡◌ {A = ℕ} 0 1 = cc in omega arith)
-found_at (some j) k p = cc
-
-found_nowhere : (x : Option ℕ) → Nowhere ≡ place_of x → x ≡ none
-found_nowhere none p = refl
-found_nowhere (some j) p = absurd (let z : ◌≡◌ {A = ℕ} 0 1 = cc in omega arith)
-
 -- ---- of HNA octets
 
-pub ragged : (e : List ℕ) → (length e % entry_size ≡ 0 → ⊥) → numbered 7 ≡ fault_of (hna_fault e)
+pub ragged : (e : List ℕ) → (length e % entry_size ≡ 0 → ⊥) → some (numbered 7) ≡ hna_fault e
 unfolding hna_fault
 ragged e n = rw (ne_eqb (length e % entry_size) 0 n)
 
 -- of whole entries: those that break a rule are looked for by each rule in turn
 module _ (e : List ℕ) (z : length e % entry_size ≡ 0) where
-  pub mask-found : (k : ℕ) → At k ≡ place_of (first_breaking bad_mask e) → placed 8 k ≡ fault_of (hna_fault e)
+  pub mask-found : (k : ℕ) → first_breaking bad_mask e ≡ some k → some (placed 8 k) ≡ hna_fault e
   unfolding hna_fault
-  mask-found k p = rw (eq-eqb (length e % entry_size) 0 z, found_at (first_breaking bad_mask e) k p)
+  mask-found k p = rw (eq-eqb (length e % entry_size) 0 z, p)
 
-  module _ (masks : Nowhere ≡ place_of (first_breaking bad_mask e)) where
-    pub host_bits_found : (k : ℕ) → At k ≡ place_of (first_breaking host_bits_set e) → placed 16 k ≡ fault_of (hna_fault e)
+  module _ (masks : first_breaking bad_mask e ≡ none) where
+    pub host_bits_found : (k : ℕ) → first_breaking host_bits_set e ≡ some k → some (placed 16 k) ≡ hna_fault e
     unfolding hna_fault
-    host_bits_found k p =
-        rw (eq-eqb (length e % entry_size) 0 z, found_nowhere (first_breaking bad_mask e) masks, found_at (first_breaking host_bits_set e) k p)
+    host_bits_found k p = rw (eq-eqb (length e % entry_size) 0 z, masks, p)
 
-    pub none_found : Nowhere ≡ place_of (first_breaking host_bits_set e) → numbered 0 ≡ fault_of (hna_fault e)
+    pub none_found : first_breaking host_bits_set e ≡ none → none ≡ hna_fault e
     unfolding hna_fault
-    none_found p =
-        rw (eq-eqb (length e % entry_size) 0 z, found_nowhere (first_breaking bad_mask e) masks, found_nowhere (first_breaking host_bits_set e) p)
+    none_found p = rw (eq-eqb (length e % entry_size) 0 z, masks, p)
 
 -- ---- of a received packet
 
 module _ (v : ℕ) (p : List ℕ) where
-  pub short : length p < header_size → numbered 5 ≡ fault_of (packet_fault v p)
+  pub short : length p < header_size → some (numbered 5) ≡ packet_fault v p
   unfolding packet_fault
   short h = rw (lt-ltb (length p) header_size h)
 
   module _ (low : header_size ≤ length p) where
-    pub long : packet_most < length p → numbered 5 ≡ fault_of (packet_fault v p)
+    pub long : packet_most < length p → some (numbered 5) ≡ packet_fault v p
     unfolding packet_fault
     long h = rw (le-ltb (length p) header_size low, lt-ltb packet_most (length p) h)
 
     module _ (high : length p ≤ packet_most) where
-      pub other_version : (octet p version_at ≡ v → ⊥) → numbered 6 ≡ fault_of (packet_fault v p)
+      pub other_version : (octet p version_at ≡ v → ⊥) → some (numbered 6) ≡ packet_fault v p
       unfolding packet_fault
       other_version n = rw (le-ltb (length p) header_size low, le-ltb packet_most (length p) high, ne_eqb (octet p version_at) v n)
 
-      pub same_version : octet p version_at ≡ v → fault_of (hna_fault (hna p)) ≡ fault_of (packet_fault v p)
+      pub same_version : octet p version_at ≡ v → hna_fault (hna p) ≡ packet_fault v p
       unfolding packet_fault
       same_version e = rw (le-ltb (length p) header_size low, le-ltb packet_most (length p) high, eq-eqb (octet p version_at) v e) (last (hna_fault (hna p)))
 
 -- ---- of the packet that would have the HNA octets e
 
 module _ (e : List ℕ) where
-  pub too_many : packet_most - header_size < length e → numbered 5 ≡ fault_of (written_fault e)
+  pub too_many : packet_most - header_size < length e → some (numbered 5) ≡ written_fault e
   unfolding written_fault
   too_many h = rw (le-ltb (header_size + length e) header_size (omega arith), lt-ltb packet_most (header_size + length e) (omega arith))
 
-  pub few : length e ≤ packet_most - header_size → fault_of (hna_fault e) ≡ fault_of (written_fault e)
+  pub few : length e ≤ packet_most - header_size → hna_fault e ≡ written_fault e
   unfolding written_fault
   few h = rw (le-ltb (header_size + length e) header_size (omega arith), le-ltb packet_most (header_size + length e) (omega arith)) (last (hna_fault e))

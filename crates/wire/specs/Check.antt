@@ -23,10 +23,6 @@ abbrev pub first_of : List (Option Fault) → Option Fault
 first_of [] = none
 first_of (f ∷ fs) = maybe f (first_of fs) some
 
--- as numbers: both 0 where there is no refusal
-abbrev pub fault_of : Option Fault → Fault
-fault_of x = maybe x (numbered 0) (λ f. f)
-
 -- ---- the facts
 
 -- 5: below 12 or above 1,472 octets; n is how many the packet has

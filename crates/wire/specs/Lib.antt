@@ -3,6 +3,6 @@ pub mod Layout
 pub mod Packet
 pub mod Check
 pub mod Entries
-pub mod Place
+pub mod Refusals
 pub mod PassOn
 pub mod Laws

@@ -19,18 +19,11 @@ pub struct Header {
     pub originator: u32,
 }
 
-// A refusal: its number, and the place that 8 and 16 carry, else 0. Both are 0 where there is none.
+// A refusal as a call of batman.h answers it: its number, and the place that 8 and 16 carry, else 0. Both are 0 where nothing is refused.
 #[derive(Clone, Copy)]
 pub struct Fault {
     pub number: u64,
     pub place: u64,
-}
-
-// The place of an HNA entry, from 0, or none.
-#[derive(Clone, Copy)]
-pub enum Place {
-    At(usize),
-    Nowhere,
 }
 
 // The octets of a message, and where its version stands.

@@ -1,32 +1,62 @@
-// RULES 8.2: the refusals. include/batman.h has them by the same names for C.
-pub const NOT_WELL_FORMED: u64 = 1;
+// RULES 8.2: the refusals, and their numbers, which include/batman.h has for C by the same names in capitals.
+ghost use Rattle.std.specs.Prelude.{◌≡◌};
+ghost use Rattle.wire.specs.Refusals.{fault_by};
 
-pub const NOT_IN_USE: u64 = 2;
+use crate::{Fault, refusal, refusal_at};
 
-pub const TIME_BEFORE: u64 = 3;
+// Why a call or a packet is refused.
+#[derive(Clone, Copy, Debug, PartialEq, Eq)]
+pub enum Refusal {
+    NotWellFormed,
+    NotInUse,
+    TimeBefore,
+    ShortOutput,
+    WrongSize,
+    WrongVersion,
+    RaggedEntries,
+    // With the place of the HNA entry, from 0.
+    WrongMask(usize),
+    NeighboursFull,
+    OriginatorsFull,
+    LinksFull,
+    NotAllowed,
+    TtlTooLow,
+    WrongBurst,
+    EntriesFull,
+    // With the place of the HNA entry, from 0.
+    HostBitsSet(usize),
+}
 
-pub const SHORT_OUTPUT: u64 = 4;
+impl From<Refusal> for Fault {
+    ghost from_gives = { λ why fault. fault ≡ fault_by why };
 
-pub const WRONG_SIZE: u64 = 5;
+    fn from(why: Refusal) -> Fault {
+        match why {
+            Refusal::NotWellFormed => refusal(1),
+            Refusal::NotInUse => refusal(2),
+            Refusal::TimeBefore => refusal(3),
+            Refusal::ShortOutput => refusal(4),
+            Refusal::WrongSize => refusal(5),
+            Refusal::WrongVersion => refusal(6),
+            Refusal::RaggedEntries => refusal(7),
+            Refusal::WrongMask(k) => refusal_at(8, k),
+            Refusal::NeighboursFull => refusal(9),
+            Refusal::OriginatorsFull => refusal(10),
+            Refusal::LinksFull => refusal(11),
+            Refusal::NotAllowed => refusal(12),
+            Refusal::TtlTooLow => refusal(13),
+            Refusal::WrongBurst => refusal(14),
+            Refusal::EntriesFull => refusal(15),
+            Refusal::HostBitsSet(k) => refusal_at(16, k),
+        }
+    }
+}
 
-pub const WRONG_VERSION: u64 = 6;
-
-pub const RAGGED_ENTRIES: u64 = 7;
-
-pub const WRONG_MASK: u64 = 8;
-
-pub const NEIGHBOURS_FULL: u64 = 9;
-
-pub const ORIGINATORS_FULL: u64 = 10;
-
-pub const LINKS_FULL: u64 = 11;
-
-pub const NOT_ALLOWED: u64 = 12;
-
-pub const TTL_TOO_LOW: u64 = 13;
-
-pub const WRONG_BURST: u64 = 14;
-
-pub const ENTRIES_FULL: u64 = 15;
-
-pub const HOST_BITS_SET: u64 = 16;
+impl Refusal {
+    // Its number alone, for the calls whose refusals carry no place.
+    pub fn number(self) -> u64
+        ensures { result ≡ (fault_by self).number }
+    {
+        Fault::from(self).number
+    }
+}

@@ -6,7 +6,8 @@ use Rattle.bench_search.proofs.bench_search.Goals as goal
 
 pub returns-then-not-well_formed : goal.returns-then-not-well_formed
 returns-then-not-well_formed c =
-    refused c.args.cells.now c.args.originators.now (sym c.well_formed-2.ensures ∙ c.if-not-well_formed.true)
+    rw c.number.ensures
+    (refused c.args.cells.now c.args.originators.now (sym c.well_formed-2.ensures ∙ c.if-not-well_formed.true))
 
 pub search_each-requires : goal.search_each-requires
 search_each-requires c = knows _ (sym c.well_formed-2.ensures ∙ c.if-not-well_formed.false)

@@ -5,7 +5,7 @@ use Rattle.call_best.proofs.best.Goals as goal
 
 pub returns-then-not-well_formed : goal.returns-then-not-well_formed
 returns-then-not-well_formed c =
-    rw (c.asked_as.ensures, c.no_route.ensures) (ill_formed c.args.cells.now c.args.originator (ill _ c.well_formed-2.ensures c.if-not-well_formed.true-raw))
+    rw (c.asked_as.ensures, c.number.ensures, c.no_route.ensures) (ill_formed c.args.cells.now c.args.originator (ill _ c.well_formed-2.ensures c.if-not-well_formed.true-raw))
 
 pub route_to-requires : goal.route_to-requires
 route_to-requires c = known _ c.well_formed-2.ensures c.if-not-well_formed.false-raw

@@ -25,12 +25,12 @@ knows-else c = knows _ (sym c.well_formed-2.ensures ∙ c.if-not-well_formed.fal
 
 pub returns-then-not-well_formed : goal.returns-then-not-well_formed
 returns-then-not-well_formed c =
-    not_well_formed _ _ _ _ _ _ _ _ _ (in_range (goal.at.returns-then-not-well_formed c).After-well_formed-2) (sym c.well_formed-2.ensures ∙ c.if-not-well_formed.true) c.no_answers.ensures
+    not_well_formed _ _ _ _ _ _ _ _ (in_range (goal.at.returns-then-not-well_formed c).After-well_formed-2) (sym c.well_formed-2.ensures ∙ c.if-not-well_formed.true)
 
 pub returns-then-not-fits : goal.returns-then-not-fits
 returns-then-not-fits c =
     let at = goal.at.returns-then-not-fits c in
-    unfit _ _ _ _ _ _ _ _ (knows-else at.Else-not-well_formed) _ (in_range at.After-well_formed-2) (λ a z. sym c.if-not-fits.true ∙ c.fits.ensures a z) c.no_answers-then-not-fits.ensures
+    unfit _ _ _ _ _ _ _ _ (knows-else at.Else-not-well_formed) (in_range at.After-well_formed-2) (λ a z. sym c.if-not-fits.true ∙ c.fits.ensures a z)
 
 pub receive_each-requires : goal.receive_each-requires
 receive_each-requires c =

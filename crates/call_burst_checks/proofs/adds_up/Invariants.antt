@@ -1,10 +1,7 @@
--- With i lengths taken off, what is left of the buffer and of the lengths keep their balance.
-use Rattle.std.proofs.Common.{◌≡◌, ◌+◌, ◌-◌, ◌≤◌, length, drop}
+-- What is left of the buffer and the lengths to come make up what the buffer and all lengths do.
+use Rattle.std.proofs.Common.{◌≡◌, ◌+◌, drop}
 use Rattle.lists.specs.Lists.{sum}
 use Rattle.call_burst_checks.proofs.adds_up.Given as goal
 
-abbrev pub invariant-loop-i : goal.invariant-loop-i
-invariant-loop-i l = record { within : l.i ≤ length l.lengths; balance : sum l.lengths + l.rest ≡ l.octets + sum (drop l.i l.lengths) }
-
-abbrev pub decreases-loop-i : goal.decreases-loop-i
-decreases-loop-i l = length l.lengths - l.i
+abbrev pub invariant-loop-length : goal.invariant-loop-length
+invariant-loop-length l = sum l.lengths + l.rest ≡ l.octets + sum (drop l.length-index l.lengths)

@@ -1,21 +1,12 @@
-use Rattle.std.proofs.Common.{◌≡◌, length, refl, arith, add-one}
-use denote.Struct.Laws.{owed}
-use Rattle.walks.proofs.Elements.{long}
+-- The rows written are as many as the answers, and the rest is as it was lent.
+use Rattle.std.proofs.Common.{◌≡◌, ◌++◌, length, drop, sym, ap, ◌∙◌}
+use Rattle.std.proofs.lemmas.List.{length-take-le}
 use Rattle.lists.specs.Lists.{written_to}
-use Rattle.lists.proofs.Written.{written-more}
-use Rattle.rules.specs.contracts.Received.{the_row}
-use Rattle.call_burst_rows.specs.contracts.Answers.{the_type}
-use Rattle.call_burst_rows.proofs.Answers.TheLaws.{the_laws}
 use Rattle.call_burst_rows.proofs.fill_answers.Goals as goal
 
-pub loop-i-init : goal.loop-i-init
+pub returns : goal.returns
 unfolding written_to
-loop-i-init c = record { below = omega arith; rows = refl }
-
-pub loop-i-preserved : goal.loop-i-preserved
-loop-i-preserved c =
-    let size : length c.args.got.rows ≡ 32 = long the_row 32 c.args.got.rows _ (owed the_type the_laws c.args.got _ c.well_formed.1.0).0 in
-    record {
-      below = omega arith;
-      rows = rw (add-one, c.loop-i.invariant.rows) (written-more c.args.got.rows c.args.rows.now c.loop-i.i _ (omega arith) (omega arith));
-    }
+returns c =
+    let e = c.copy_from_slice.ensures.after in
+    let n : c.args.got.n ≡ length c.copy_from_slice.new.self = sym (c.copy_from_slice.ensures.len ∙ length-take-le _ _ c.requires.1) in
+    λ j. e j ++ drop ((n ∙ ap length e) j) c.args.rows.now

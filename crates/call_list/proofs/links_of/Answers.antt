@@ -15,7 +15,7 @@ suits c = sym c.well_formed-2.ensures ∙ c.if-not-well_formed.false
 pub returns-then-not-well_formed : goal.returns-then-not-well_formed
 returns-then-not-well_formed c =
     let a = c.args in
-    not_well_formed a.cells.now a.originator a.room c.no_links.result (sym c.well_formed-2.ensures ∙ c.if-not-well_formed.true) c.no_links.ensures
+    not_well_formed a.cells.now a.originator a.room (sym c.well_formed-2.ensures ∙ c.if-not-well_formed.true)
 
 pub held_links-got-requires : goal.held_links-got-requires
 held_links-got-requires c = knows c.args.cells.now (suits (goal.at.held_links-got-requires c).Else-not-well_formed)
@@ -23,9 +23,9 @@ held_links-got-requires c = knows c.args.cells.now (suits (goal.at.held_links-go
 pub returns-then-room-got : goal.returns-then-room-got
 returns-then-room-got c =
     let a = c.args in
-    no_room a.cells.now a.originator a.room c.no_links-then-room-got.result (suits (goal.at.returns-then-room-got c).Else-not-well_formed) c.held_links-got.result c.held_links-got.ensures (search rules) c.no_links-then-room-got.ensures
+    no_room a.cells.now a.originator a.room (suits (goal.at.returns-then-room-got c).Else-not-well_formed) c.held_links-got.result c.held_links-got.ensures (search rules)
 
 pub returns : goal.returns
 returns c =
     let a = c.args in
-    found_settles a.cells.now a.originator a.room c.held_links-got.result (suits (goal.at.returns c).Else-not-well_formed) (search rules) c.held_links-got.ensures
+    found_settles a.cells.now a.originator a.room (suits (goal.at.returns c).Else-not-well_formed) c.held_links-got.result c.held_links-got.ensures (search rules)

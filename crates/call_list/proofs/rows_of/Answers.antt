@@ -1,42 +1,21 @@
 -- `rows_of`: after i turns the rows of the first i links are written. Its places are named once, each by the one before.
 use borrow.Author.Rules.{rules}
-use mathlib.Core.Path.{◌≡◌, sym, ap, ◌∙◌, subst}
+use mathlib.Core.Path.{◌≡◌, ap, ◌∙◌}
 use mathlib.Core.List.{List}
-use Prim.Native.Nat.{ℕ, ◌+◌, ◌*◌, ◌≤◌, ◌<◌}
-use native.Mathlib.Omega.{arith}
-use lib.ListN.{length, get_or, replicate}
+use Prim.Native.Nat.{ℕ}
+use lib.ListN.{get_or, replicate}
 use Rattle.lists.specs.Lists.{written_to}
 use Rattle.window.specs.Marks.{word_of}
-use Rattle.rules.specs.Settings.{link_most, link_cells}
-use Rattle.rules.specs.Calls.{pairs}
+use Rattle.rules.specs.Settings.{link_most}
 use Rattle.table_record.specs.Links.{link_at}
 use Rattle.table_record.specs.Record.{best_at}
-use Rattle.table_record.proofs.Rows.{part_size}
 use Rattle.call_list.specs.Listing.{row_of}
 use Rattle.call_list.proofs.Rows.{row_written, rows-found}
 use Rattle.call_list.proofs.rows_of.Goals as goal
-use Rattle.call_list.proofs.rows_of.Goals.{In-loop-i}
 
 pub loop-i-init : goal.loop-i-init
 unfolding written_to
 loop-i-init c = (search rules, ap (replicate link_most) c.zero_row-rows.ensures)
-
--- link i is in the part
-within : (c : goal.In-loop-i) → (c.loop-i.i + 1) * link_cells ≤ length c.links_part-part.result.now
-within c =
-    let few = c.requires.few in
-    omega (arith, ap length c.links_part-part.ensures, part_size c.args.row.now c.requires.size)
-
-pub key_at-requires : goal.key_at-requires
-key_at-requires c = within (goal.at.key_at-requires c).In-loop-i
-
-pub marks_at-requires : goal.marks_at-requires
-marks_at-requires c = within (goal.at.marks_at-requires c).In-loop-i
-
-pub row_of-requires : goal.row_of-requires
-row_of-requires c =
-    let i = c.loop-i.i in
-    subst (λ (x : ℕ). x < pairs) (sym (c.key_at.ensures ∙ ap (λ (l : List ℕ). (link_at l i).0) c.links_part-part.ensures)) (c.requires.addresses i (search rules))
 
 pub loop-i-preserved : goal.loop-i-preserved
 loop-i-preserved c =

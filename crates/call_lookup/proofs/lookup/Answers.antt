@@ -5,7 +5,7 @@ use Rattle.call_lookup.proofs.lookup.Goals as goal
 
 pub returns-then-not-well_formed : goal.returns-then-not-well_formed
 returns-then-not-well_formed c =
-    rw c.none_located.ensures (ill_formed c.args.cells.now c.args.address (ill _ c.well_formed-2.ensures c.if-not-well_formed.true-raw))
+    rw (c.none_located.ensures, c.number.ensures) (ill_formed c.args.cells.now c.args.address (ill _ c.well_formed-2.ensures c.if-not-well_formed.true-raw))
 
 pub seen_all-requires : goal.seen_all-requires
 seen_all-requires c = known _ c.well_formed-2.ensures c.if-not-well_formed.false-raw

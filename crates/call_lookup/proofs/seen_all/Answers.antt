@@ -16,9 +16,6 @@ use Rattle.call_lookup.proofs.seen_all.Goals as goal
 abbrev held : List ℕ → List (ℕ × List ℕ)
 held c = entries_held table (decode c)
 
-pub loop-i-init : goal.loop-i-init
-loop-i-init c = let a = c.args in (omega arith, ap (seen_all a.address (held a.cells.now)) c.none_seen-best.ensures)
-
 pub record_at-requires : goal.record_at-requires
 record_at-requires c = holds c.args.cells.now c.requires c.loop-i.i (omega arith)
 

@@ -17,7 +17,8 @@ passed c = sym c.make_allowed.ensures ∙ c.if-not-make_allowed.false
 
 pub returns-then-not-make_allowed : goal.returns-then-not-make_allowed
 returns-then-not-make_allowed c =
-    not_made c.args.cells.now (make_args c.args.settings c.args.rows c.args.used) (sym c.make_allowed.ensures ∙ c.if-not-make_allowed.true)
+    rw c.number.ensures
+    (not_made c.args.cells.now (make_args c.args.settings c.args.rows c.args.used) (sym c.make_allowed.ensures ∙ c.if-not-make_allowed.true))
 
 pub fresh_rows-interfaces-requires : goal.fresh_rows-interfaces-requires
 fresh_rows-interfaces-requires c =

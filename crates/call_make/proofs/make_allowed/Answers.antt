@@ -8,7 +8,7 @@ use lib.ListN.{get_or}
 use Rattle.cells.proofs.Bools.{fails}
 use Rattle.rules.specs.Settings.{make_allowed, config_of, settings_ok, capacity_most, interface_most, within, differ, own_addresses}
 use Rattle.call_make.specs.Make.{make_args, no_interface}
-use Rattle.rules.proofs.Config.{within_low, within-high, capacity-most}
+use Rattle.rules.proofs.Config.{capacity-most}
 use Rattle.call_make.proofs.Making.{four, in_range, four_in_range, own_four, allowed-settings, allowed-used, allowed-differ, size_decides}
 use Rattle.call_make.proofs.make_allowed.Goals as goal
 use Rattle.call_make.proofs.make_allowed.Goals.{After-own_differ, Else-not-settings_ok, Else-not-used}
@@ -34,11 +34,6 @@ returns-then-not-settings_ok c =
 pub returns-then-not-used : goal.returns-then-not-used
 returns-then-not-used c =
     sym (fails (make_allowed c.args.n (make_args c.args.settings c.args.rows c.args.used)) (within 1 interface_most c.args.used) (allowed-used c.args.n (make_args c.args.settings c.args.rows c.args.used)) (c.if-not-used.true))
-
-pub own_differ-requires : goal.own_differ-requires
-own_differ-requires c =
-    let n = c.args.used in
-    (within_low 1 interface_most n (used (goal.at.own_differ-requires c).Else-not-used), within-high 1 interface_most n (used (goal.at.own_differ-requires c).Else-not-used))
 
 pub returns-then-not-own_differ : goal.returns-then-not-own_differ
 returns-then-not-own_differ c =

@@ -9,7 +9,7 @@ pub returns-then-not-well_formed : goal.returns-then-not-well_formed
 returns-then-not-well_formed c =
     let a = c.args in
     ill_formed a.cells.now (args_of a.packet.now a.sender a.interface a.time a.out.now) (ill _ c.well_formed-2.ensures c.if-not-well_formed.true-raw) _
-    (c.refused.ensures ∙ ap refused_by c.refusal.ensures)
+    (c.refused.ensures ∙ ap refused_by c.into.ensures)
 
 pub receive_checked-requires : goal.receive_checked-requires
 receive_checked-requires c = known _ c.well_formed-2.ensures c.if-not-well_formed.false-raw

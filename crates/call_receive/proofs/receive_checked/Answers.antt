@@ -3,38 +3,31 @@ use mathlib.Core.Path.{◌≡◌, refl, sym, ap, ◌∙◌, subst}
 use mathlib.Core.Option.{none}
 use native.Mathlib.Omega.{arith}
 use lib.ListN.{length}
-use Rattle.wire.specs.declared.Fault.{Fault}
-use Rattle.wire.specs.Check.{fault_of}
 use Rattle.rules.specs.Rules as R
-use Rattle.rules.proofs.Faults.{found_number}
 use Rattle.rules.specs.Table.{table}
 use Rattle.table_layout.specs.Cells.{decode}
 use Rattle.call_receive_arrival.specs.declared.Arrival.{Arrival}
 use Rattle.call_receive_arrival.specs.Receiving.{args_of, after, refused_by, Leaves, Taken, Ruled}
 use Rattle.call_receive_arrival.proofs.Ways.{way_judge}
-use Rattle.call_receive.proofs.Call.{faulty, judged, left_known, by_number, in_use, has_header, takes}
+use Rattle.call_receive.proofs.Call.{faulty, judged, left_known, in_use, has_header, takes}
 use Rattle.call_receive.proofs.receive_checked.Goals as goal
-use Rattle.call_receive.proofs.receive_checked.Goals.{After-receive_fault-fault, Else-fault-ne0}
+use Rattle.call_receive.proofs.receive_checked.Goals.{In_default}
 
--- ---- what the refusals say of these arguments
-fault-is : (c : goal.After-receive_fault-fault) → c.receive_fault-fault.result ≡ fault_of (R.receive_fault (decode (c.args.cells.now)).config (decode (c.args.cells.now)).time (args_of c.args.packet.now c.args.sender c.args.interface c.args.time c.args.out.now))
-fault-is c = c.receive_fault-fault.ensures c.args.sender c.args.out.now refl
-
-pub returns-then-fault-ne0 : goal.returns-then-fault-ne0
-returns-then-fault-ne0 c =
-    let e = fault-is (goal.at.returns-then-fault-ne0 c).After-receive_fault-fault in
-    let fault = R.receive_fault (decode (c.args.cells.now)).config (decode (c.args.cells.now)).time (args_of c.args.packet.now c.args.sender c.args.interface c.args.time c.args.out.now) in (
-      faulty (c.args.cells.now) (args_of c.args.packet.now c.args.sender c.args.interface c.args.time c.args.out.now) c.requires (fault_of fault) (found_number fault (λ z. c.if-fault-ne0.true (ap (λ (x : Fault). x.number) e ∙ z))) _ (c.refused.ensures ∙ ap refused_by e),
+-- ---- refused by the rules
+pub returns-in-Err : goal.returns-in-Err
+returns-in-Err c =
+    let a = c.args in (
+      faulty a.cells.now (args_of a.packet.now a.sender a.interface a.time a.out.now) c.requires _ (sym (c.in-Err.ensures a.sender a.out.now refl)) _ (c.refused.ensures ∙ ap refused_by c.into.ensures),
       c.requires,
     )
 
 -- nothing is refused
-fine : (c : goal.Else-fault-ne0) → R.receive_fault (decode (c.args.cells.now)).config (decode (c.args.cells.now)).time (args_of c.args.packet.now c.args.sender c.args.interface c.args.time c.args.out.now) ≡ none
-fine c = by_number (c.args.cells.now) (args_of c.args.packet.now c.args.sender c.args.interface c.args.time c.args.out.now) (sym (ap (λ (x : Fault). x.number) (c.receive_fault-fault.ensures c.args.sender c.args.out.now refl)) ∙ c.if-fault-ne0.false)
+fine : (c : goal.In_default) → R.receive_fault (decode (c.args.cells.now)).config (decode (c.args.cells.now)).time (args_of c.args.packet.now c.args.sender c.args.interface c.args.time c.args.out.now) ≡ none
+fine c = sym (c.in_default.ensures c.args.sender c.args.out.now refl)
 
 pub read_arrival-m-requires : goal.read_arrival-m-requires
 read_arrival-m-requires c =
-    (has_header (c.args.cells.now) (args_of c.args.packet.now c.args.sender c.args.interface c.args.time c.args.out.now) (fine (goal.at.read_arrival-m-requires c).Else-fault-ne0), omega (arith, c.requires.sized.used-most, in_use (c.args.cells.now) (args_of c.args.packet.now c.args.sender c.args.interface c.args.time c.args.out.now) (fine (goal.at.read_arrival-m-requires c).Else-fault-ne0)))
+    (has_header (c.args.cells.now) (args_of c.args.packet.now c.args.sender c.args.interface c.args.time c.args.out.now) (fine (goal.at.read_arrival-m-requires c).In_default), omega (arith, c.requires.sized.used-most, in_use (c.args.cells.now) (args_of c.args.packet.now c.args.sender c.args.interface c.args.time c.args.out.now) (fine (goal.at.read_arrival-m-requires c).In_default)))
 
 -- ---- judged
 pub judge-requires : goal.judge-requires
@@ -43,8 +36,8 @@ judge-requires c =
     let p = a.packet.now in
     let o = a.out.now in
     subst (λ (m : Arrival). Taken (c.args.cells.now) p o m × Ruled (c.args.cells.now) p o m (λ x y h. R.judge table x y h)) (sym c.read_arrival-m.ensures.0) (
-      takes (c.args.cells.now) p a.sender a.interface a.time o c.requires (fine (goal.at.judge-requires c).Else-fault-ne0) (c.read_arrival-m.ensures.1 o),
-      way_judge (decode (c.args.cells.now)) (args_of c.args.packet.now c.args.sender c.args.interface c.args.time c.args.out.now) (length (c.args.cells.now)) (fine (goal.at.judge-requires c).Else-fault-ne0),
+      takes (c.args.cells.now) p a.sender a.interface a.time o c.requires (fine (goal.at.judge-requires c).In_default) (c.read_arrival-m.ensures.1 o),
+      way_judge (decode (c.args.cells.now)) (args_of c.args.packet.now c.args.sender c.args.interface c.args.time c.args.out.now) (length (c.args.cells.now)) (fine (goal.at.judge-requires c).In_default),
     )
 
 pub returns : goal.returns

@@ -27,13 +27,13 @@ returns-then-not-bidirectional c =
 
 pub returns-then-cells : goal.returns-then-cells
 returns-then-cells c =
-    refused-left c.requires.0.taken.knows (call_of c.args.packet.now c.args.out.now c.args.m) (first-full c.requires.0 c.requires.1 (c.if-not-bidirectional.false) c.if-cells.true) refl c.refusal.ensures
+    refused-left c.requires.0.taken.knows (call_of c.args.packet.now c.args.out.now c.args.m) (first-full c.requires.0 c.requires.1 (c.if-not-bidirectional.false) c.if-cells.true) refl c.into.ensures
     c.refused.ensures
 
 pub returns-then-too_many : goal.returns-then-too_many
 returns-then-too_many c =
     refused-left c.requires.0.taken.knows (call_of c.args.packet.now c.args.out.now c.args.m)
-    (first_many c.requires.0 c.requires.1 (c.if-not-bidirectional.false) (omega (arith, c.if-cells.false)) (ltb-true entry_most (entries (hna c.args.packet.now)) (sym (many (goal.at.returns-then-too_many c).After-too_many) ∙ c.if-too_many.true))) refl c.refusal-then-too_many.ensures c.refused-then-too_many.ensures
+    (first_many c.requires.0 c.requires.1 (c.if-not-bidirectional.false) (omega (arith, c.if-cells.false)) (ltb-true entry_most (entries (hna c.args.packet.now)) (sym (many (goal.at.returns-then-too_many c).After-too_many) ∙ c.if-too_many.true))) refl c.into-then-too_many.ensures c.refused-then-too_many.ensures
 
 pub make_record-route-requires : goal.make_record-route-requires
 make_record-route-requires c =

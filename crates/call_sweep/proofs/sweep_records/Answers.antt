@@ -1,15 +1,10 @@
 -- `call_sweep::sweep_records` meets its contract: the pass over the records, and what it leaves. Assumes nothing.
-use borrow.Author.Rules.{rules}
-use lib.ListN.{length-set}
 use Rattle.call_sweep.proofs.Steps.{meets, swept_all}
 use Rattle.call_sweep.proofs.sweep_records.Goals as goal
 
 pub keep_recent-kept-requires : goal.keep_recent-kept-requires
 keep_recent-kept-requires c =
     meets c.args.cells.now c.requires.0 c.args.time c.requires.1
-
-pub bounds-cells-7 : goal.bounds-cells-7
-bounds-cells-7 c = simp length-set (search rules)
 
 pub returns : goal.returns
 returns c =

@@ -1,13 +1,7 @@
-use mathlib.Core.Path.{◌≡◌}
-use mathlib.Core.Bool.{◌&&◌}
-use Prim.Native.Nat.{◌-◌, ◌≤◌}
-use lib.Dec.{eqb}
-use lib.ListN.{length, drop}
-use Rattle.cells.specs.Area.{all_zero}
+-- The bits of the cells so far are joined.
+use Rattle.std.proofs.Common.{◌≡◌, take, bit_or}
+use Rattle.std.specs.Prelude.{fold}
 use Rattle.cells.proofs.all_zero.Given as goal
 
-abbrev pub invariant-loop-i : goal.invariant-loop-i
-invariant-loop-i l = (l.i ≤ length l.cells) × ((eqb l.bits 0 && all_zero (drop l.i l.cells)) ≡ all_zero l.cells)
-
-abbrev pub decreases-loop-i : goal.decreases-loop-i
-decreases-loop-i l = length l.cells - l.i
+abbrev pub invariant-loop-cell : goal.invariant-loop-cell
+invariant-loop-cell l = l.bits ≡ fold (λ b x. bit_or b x) 0 (take l.cell-index l.cells)

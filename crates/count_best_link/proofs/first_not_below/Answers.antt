@@ -1,21 +1,17 @@
 -- The links are read one by one, up to the first that does not stand below this one: all before it do, so whether all do is asked of the rest.
-use mathlib.Core.Path.{◌≡◌, refl, sym, ap, ◌∙◌}
+use mathlib.Core.Path.{◌≡◌, sym, ap, ◌∙◌}
 use mathlib.Core.Bool.{Bool, true, false, ◌&&◌}
 use Prim.Native.Nat.{ℕ, ◌+◌}
 use native.Mathlib.Omega.{arith}
-use lib.Dec.{eqb}
 use Rattle.lists.proofs.Tests.{or_neither}
 use Rattle.window.specs.Window.{shift}
 use Rattle.window.specs.Marks.{word_of}
 use Rattle.rules.specs.Settings.{Config, Follows}
 use Rattle.rules.specs.Table.{is_highest}
 use Rattle.count_best_link.specs.BestLink.{LeastNotBelow, moved}
-use Rattle.count_best_link.proofs.Leading.{leads, leads_one, leads_all, from, from_start}
+use Rattle.count_best_link.proofs.Leading.{leads, leads_one, from, from_start}
 use Rattle.count_best_link.proofs.first_not_below.Goals as goal
 use Rattle.count_best_link.proofs.first_not_below.Goals.{After-yields, At-loop-i}
-
-pub loop-i-init : goal.loop-i-init
-loop-i-init c = (omega arith, refl, λ κ own r. refl)
 
 -- where a link has been read: whether it stands below, and whether all links from it on do
 told : (c : goal.After-yields) (κ : Config) (own : ℕ) → let a = c.args in LeastNotBelow κ own c.least_not_below-least.result → (t : Bool) → c.yields.result ≡ t
@@ -37,13 +33,6 @@ all-links c κ f =
     let a = c.args in
     c.loop-i.invariant.2 κ c.count.result (c.least_not_below-least.ensures κ f)
     ∙ (λ j. leads κ a.key (c.count.ensures j) (from_start a.part.now a.step a.n j))
-
-pub returns-after-loop-i : goal.returns-after-loop-i
-returns-after-loop-i c κ f =
-    let a = c.args in
-    ap (λ (k : ℕ). eqb k a.key) c.loop-i.invariant.1
-    ∙ leads_all a.part.now a.step a.n c.loop-i.i κ a.key _ (omega arith)
-    ∙ all-links (goal.at.returns-after-loop-i c).At-loop-i κ f
 
 pub returns-then-not-yields : goal.returns-then-not-yields
 returns-then-not-yields c κ f =

@@ -40,7 +40,7 @@ recount-left-requires c =
 pub returns-then-left-gt-LINKS_MOST : goal.returns-then-left-gt-LINKS_MOST
 returns-then-left-gt-LINKS_MOST c κ f =
     counted_11 κ c.args.row.now (message_of c.args.m c.args.hna.now) f (omega arith) (current_is (goal.at.returns-then-left-gt-LINKS_MOST c).After-advance-next) c.distance-up.ensures c.distance-below.ensures c.links_part.ensures
-    c.recount-left.ensures c.if-left-gt-LINKS_MOST.true c.refusal.ensures
+    c.recount-left.ensures c.if-left-gt-LINKS_MOST.true
 
 -- whether the entries are replaced, and whether they are too many
 replaced-is : (c : goal.After-is_new-replaced) → let a = c.args in c.is_new-replaced.result ≡ new a.p.window (get_or a.row.now current_at 0) a.m.sequence
@@ -55,7 +55,7 @@ returns-then-replaced-too_many c κ f =
     let replaced = c.is_new-replaced.result in
     counted_15 κ c.args.row.now (message_of c.args.m c.args.hna.now) f (omega arith) (current_is (goal.at.returns-then-replaced-too_many c).After-advance-next) c.distance-up.ensures c.distance-below.ensures c.links_part.ensures
     c.recount-left.ensures c.if-left-gt-LINKS_MOST.false (replaced-is (goal.at.returns-then-replaced-too_many c).After-is_new-replaced) (and_left replaced c.too_many.result c.if-replaced-too_many.true)
-    (ltb-true entry_most (length (message_of c.args.m c.args.hna.now).entries) (sym (many_is (goal.at.returns-then-replaced-too_many c).After-too_many) ∙ and_right replaced c.too_many.result c.if-replaced-too_many.true)) c.refusal-then-replaced-too_many.ensures
+    (ltb-true entry_most (length (message_of c.args.m c.args.hna.now).entries) (sym (many_is (goal.at.returns-then-replaced-too_many c).After-too_many) ∙ and_right replaced c.too_many.result c.if-replaced-too_many.true))
 
 -- entries that replace others are not too many
 few : (c : goal.Else-replaced-too_many) → c.is_new-replaced.result ≡ true → length (message_of c.args.m c.args.hna.now).entries ≤ entry_most

@@ -1,12 +1,10 @@
 -- Three steps build the goal: the links below this one, this one, and those above, each by what it leaves to come.
-use borrow.Author.Rules.{rules}
 use mathlib.Core.Path.{refl}
 use mathlib.Core.List.{[], ◌∷◌, ◌++◌}
 use Prim.Native.Nat.{ℕ, ◌+◌, ◌*◌, ◌-◌, ◌≤◌}
 use native.Mathlib.Omega.{arith}
 use lib.ListN.{length, take, drop}
 use Rattle.lists.specs.Lists.{keep}
-use Rattle.cells.proofs.Lent.{tail_length}
 use Rattle.window.specs.Marks.{word_of}
 use Rattle.rules.specs.Settings.{link_cells}
 use Rattle.count_best_link.specs.BestLink.{moved}
@@ -18,12 +16,6 @@ use Rattle.count_links.proofs.arrange.Goals.{After-put_link-arg-1}
 -- the place for this link
 put-fits : (c : goal.After-put_link-arg-1) → (c.keep_links-m.result + 1) * link_cells ≤ length c.keep_links-m.new.out
 put-fits c = omega (arith, c.keep_links-m.auto.out)
-
-pub keep_links-links-requires : goal.keep_links-links-requires
-keep_links-links-requires c =
-    let a = c.args in
-    let t = tail_length a.part.now (a.spot.high * link_cells) in
-    search rules
 
 pub returns : goal.returns
 returns c =
@@ -39,6 +31,3 @@ returns c =
           c.keep_links-links.ensures.1 [] _
           (built_put c.keep_links-m.result this rest _ (put-fits (goal.at.returns c).After-put_link-arg-1) c.put_link.ensures c.put_link.auto.out (c.keep_links-m.ensures.1 (this ∷ rest) _ start));
     }
-
-pub put_link-requires : goal.put_link-requires
-put_link-requires c = put-fits (goal.at.put_link-requires c).After-put_link-arg-1

@@ -13,9 +13,6 @@ use Rattle.count_links.specs.Links.{stays}
 use Rattle.count_links.proofs.Cells.{built_along, built_put, keep_one}
 use Rattle.count_links.proofs.keep_links.Goals as goal
 
-pub loop-i-init : goal.loop-i-init
-loop-i-init c = (omega arith, omega arith, refl, λ rest goal b. b)
-
 pub loop-i-preserved : goal.loop-i-preserved
 loop-i-preserved c =
     let a = c.args in
@@ -41,9 +38,6 @@ loop-i-preserved c =
       λ rest goal b. built_along w.out-is w.k-is (one rest _ (e ∙ w.if-stays.false)) (l.invariant.3 rest goal b),
     ))
     c.if-stays.branch-raw
-
-pub shape_of-out : goal.shape_of-out
-shape_of-out c = c.loop-i.invariant.2
 
 pub returns : goal.returns
 returns c =

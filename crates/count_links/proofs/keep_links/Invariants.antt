@@ -12,6 +12,3 @@ abbrev pub invariant-loop-i : goal.invariant-loop-i
 invariant-loop-i l =
     (l.i ≤ l.n) × (l.k + (l.n - l.i) ≤ l.m + l.n) × (length l.out ≡ length l.initial.out)
     × ((rest goal : Links) → Built l.initial.out l.m (keep (stays l.best) (from l.part l.step l.n 0) ++ rest) goal → Built l.out l.k (keep (stays l.best) (from l.part l.step l.n l.i) ++ rest) goal)
-
-abbrev pub decreases-loop-i : goal.decreases-loop-i
-decreases-loop-i l = l.n - l.i

@@ -5,22 +5,22 @@ use lib.ListN.{length}
 use Rattle.rules.specs.Settings.{link_cells}
 use Rattle.count_links.proofs.Places.{found_within, located-at, located-place}
 use Rattle.count_links.proofs.locate.Goals as goal
-use Rattle.count_links.proofs.locate.Goals.{In-At}
+use Rattle.count_links.proofs.locate.Goals.{In-Ok}
 
-within : (c : goal.In-At) → (c.in-At.i + 1) * link_cells ≤ length c.args.part.now
+within : (c : goal.In-Ok) → (c.in-Ok.i + 1) * link_cells ≤ length c.args.part.now
 within c =
-    found_within c.args.n c.args.part.now c.requires c.args.key c.find-f.ensures.found c.in-At.is
+    found_within c.args.n c.args.part.now c.requires c.args.key c.find.ensures.found c.in-Ok.is
 
 pub overflow_add-result : goal.overflow_add-result
-overflow_add-result c = omega (arith, within (goal.at.overflow_add-result c).In-At)
+overflow_add-result c = omega (arith, within (goal.at.overflow_add-result c).In-Ok)
 
 pub marks_at-requires : goal.marks_at-requires
-marks_at-requires c = within (goal.at.marks_at-requires c).In-At
+marks_at-requires c = within (goal.at.marks_at-requires c).In-Ok
 
-pub returns-in-At : goal.returns-in-At
-returns-in-At c =
-    located-at c.args.n c.args.part.now c.requires c.args.key c.find-f.ensures.found c.in-At.is c.marks_at.ensures
+pub returns-in-Ok : goal.returns-in-Ok
+returns-in-Ok c =
+    located-at c.args.n c.args.part.now c.requires c.args.key c.find.ensures.found c.in-Ok.is c.marks_at.ensures
 
-pub returns-in-Place : goal.returns-in-Place
-returns-in-Place c =
-    located-place c.args.n c.args.part.now c.requires c.args.key c.find-f.ensures.found c.no_marks.ensures c.in-Place.is
+pub returns-in-Err : goal.returns-in-Err
+returns-in-Err c =
+    located-place c.args.n c.args.part.now c.requires c.args.key c.find.ensures.found c.no_marks.ensures c.in-Err.is

@@ -1,12 +1,14 @@
 use mathlib.Core.Path.{◌≡◌}
+use mathlib.Core.Bool.{Bool}
+use mathlib.Core.List.{List}
 use mathlib.Core.Option.{none}
-use Prim.Native.Nat.{◌-◌, ◌≤◌}
+use Prim.Native.Nat.{ℕ, ◌<◌}
 use Rattle.wire.specs.Check.{entries, first_where}
-use Rattle.packet_check.specs.Entries.{breaks_rule}
 use Rattle.packet_check.proofs.first_breaking.Given as goal
 
+-- no entry before place k breaks the rule
 abbrev pub invariant-loop-k : goal.invariant-loop-k
-invariant-loop-k l = (l.k ≤ entries l.hna) × (first_where l.k (breaks_rule l.rule l.hna) ≡ none)
-
-abbrev pub decreases-loop-k : goal.decreases-loop-k
-decreases-loop-k l = l.entries - l.k
+invariant-loop-k g l =
+    (rule : List ℕ → ℕ → Bool)
+    → ((k : ℕ) (b : Bool) → k < entries l.hna → goal.F-post g l.breaks k b → b ≡ rule l.hna k)
+    → first_where l.k (rule l.hna) ≡ none

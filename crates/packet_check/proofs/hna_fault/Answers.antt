@@ -1,21 +1,37 @@
 -- `packet_check::hna_fault` meets its contract. Assumes nothing.
-use mathlib.Core.Path.{sym, ◌∙◌}
+use mathlib.Core.Path.{◌≡◌, ◌∙◌}
+use mathlib.Core.Option.{none}
+use borrow.Author.Rules.{rules}
+use Rattle.wire.specs.Check.{bad_mask, host_bits_set, first_breaking}
 use Rattle.wire.proofs.Order.{ragged, mask-found, host_bits_found, none_found}
+use Rattle.wire.proofs.Refused.{place_at, no_place}
 use Rattle.packet_check.proofs.hna_fault.Goals as goal
+use Rattle.packet_check.proofs.hna_fault.Goals.{In_default}
 
 pub returns-then-hna-ne0 : goal.returns-then-hna-ne0
-returns-then-hna-ne0 c = c.refusal.ensures ∙ ragged _ c.if-hna-ne0.true
+returns-then-hna-ne0 c = ragged _ c.if-hna-ne0.true
 
-pub returns-in-At : goal.returns-in-At
-returns-in-At c =
-    c.refusal_at.ensures ∙ mask-found _ c.if-hna-ne0.false c.in-At.k (sym c.in-At.is ∙ c.first_breaking.ensures)
+pub returns-in-Some : goal.returns-in-Some
+returns-in-Some c =
+    mask-found _ c.if-hna-ne0.false c.in-Some.k (place_at _ _ (c.first_breaking.ensures bad_mask (λ k b l p. search rules) ∙ c.in-Some.is))
 
-pub returns-in-At-first_breaking : goal.returns-in-At-first_breaking
-returns-in-At-first_breaking c =
-    c.refusal_at-in-At-first_breaking.ensures
-    ∙ host_bits_found _ c.if-hna-ne0.false (sym c.in-Nowhere.is ∙ c.first_breaking.ensures) c.in-At-first_breaking.k (sym c.in-At-first_breaking.is ∙ c.first_breaking-in-Nowhere.ensures)
+-- no mask is above 32
+no_mask : (c : goal.In_default) → first_breaking bad_mask c.args.hna.now ≡ none
+no_mask c = no_place _ (c.first_breaking.ensures bad_mask (λ k b l p. search rules) ∙ c.in_default.is)
 
-pub returns-in-Nowhere-first_breaking : goal.returns-in-Nowhere-first_breaking
-returns-in-Nowhere-first_breaking c =
-    c.refusal-in-Nowhere-first_breaking.ensures
-    ∙ none_found _ c.if-hna-ne0.false (sym c.in-Nowhere.is ∙ c.first_breaking.ensures) (sym c.in-Nowhere-first_breaking.is ∙ c.first_breaking-in-Nowhere.ensures)
+pub returns-in-Some-first_breaking : goal.returns-in-Some-first_breaking
+returns-in-Some-first_breaking c =
+    host_bits_found
+    _
+    c.if-hna-ne0.false
+    (no_mask (goal.at.returns-in-Some-first_breaking c).In_default)
+    c.in-Some-first_breaking.k
+    (place_at _ _ (c.first_breaking-2.ensures host_bits_set (λ k b l p. search rules) ∙ c.in-Some-first_breaking.is))
+
+pub returns : goal.returns
+returns c =
+    none_found
+    _
+    c.if-hna-ne0.false
+    (no_mask (goal.at.returns c).In_default)
+    (no_place _ (c.first_breaking-2.ensures host_bits_set (λ k b l p. search rules) ∙ c.in_default-first_breaking.is))

@@ -1,11 +1,9 @@
 use mathlib.Core.Path.{◌≡◌}
-use Prim.Native.Nat.{◌+◌}
-use Rattle.wire.specs.Check.{entries}
-use Rattle.packet_check.proofs.Search.{CleanBefore}
+use mathlib.Core.Bool.{true, false, ◌||◌}
+use Prim.Native.Nat.{ℕ, ◌<◌}
+use Rattle.wire.specs.Check.{bad_mask, host_bits_set}
 use Rattle.packet_check.proofs.is_clean.Given as goal
 
-abbrev pub invariant-loop-left : goal.invariant-loop-left
-invariant-loop-left l = (l.k + l.left ≡ entries l.hna) × CleanBefore l.hna l.k
-
-abbrev pub decreases-loop-left : goal.decreases-loop-left
-decreases-loop-left l = l.left
+-- no entry before place k has a fault
+abbrev pub invariant-loop-k : goal.invariant-loop-k
+invariant-loop-k l = (l.clean ≡ true) × ((j : ℕ) → j < l.k → bad_mask l.hna j || host_bits_set l.hna j ≡ false)

@@ -5,10 +5,10 @@ use Rattle.wire.proofs.Order.{too_many, few}
 use Rattle.packet_check.proofs.written_fault.Goals as goal
 
 pub returns-then-hna : goal.returns-then-hna
-returns-then-hna c = c.refusal.ensures ∙ too_many _ c.if-hna.true
+returns-then-hna c = too_many _ c.if-hna.true
 
 pub returns-then-is_clean : goal.returns-then-is_clean
-returns-then-is_clean c = c.refusal-then-is_clean.ensures ∙ c.is_clean.ensures c.if-is_clean.true ∙ few _ (search rules)
+returns-then-is_clean c = c.is_clean.ensures c.if-is_clean.true ∙ few _ (search rules)
 
 pub returns : goal.returns
 returns c = c.hna_fault.ensures ∙ few _ (search rules)

@@ -1,11 +1,6 @@
-use mathlib.Core.Path.{◌≡◌}
-use Prim.Native.Nat.{◌-◌, ◌≤◌}
-use lib.ListN.{length, drop}
-use Rattle.script_numbers.specs.Numbers as N
+use Rattle.std.proofs.Common.{◌≡◌, drop}
+use Rattle.script_numbers.specs.Numbers.{decimal_from, decimal}
 use Rattle.script_numbers.proofs.decimal.Given as goal
 
-abbrev pub invariant-loop-i : goal.invariant-loop-i
-invariant-loop-i l = (l.i ≤ length l.word) × (N.decimal_from l.most l.number (drop l.i l.word) ≡ N.decimal l.most l.word)
-
-abbrev pub decreases-loop-i : goal.decreases-loop-i
-decreases-loop-i l = length l.word - l.i
+abbrev pub invariant-loop-octet : goal.invariant-loop-octet
+invariant-loop-octet l = decimal_from l.most l.number (drop l.octet-index l.word) ≡ decimal l.most l.word

@@ -1,6 +1,7 @@
--- `read_addresses`: each member was read with the limit of 32 bits, so that nothing is cut off.
-use Rattle.script_numbers.proofs.Lists.{narrowed}
+-- `read_addresses`: each member was read with the limit of 32 bits.
 use Rattle.script_numbers.proofs.read_addresses.Goals as goal
 
-pub returns : goal.returns
-returns c = narrowed _ _ _ _ _ _ _ c.read_list-members.ensures c.narrow-value.ensures.0 c.narrow-value.ensures.1
+pub narrowed-requires : goal.narrowed-requires
+narrowed-requires c =
+    let l = rw c.in-Some.is at c.in_ok-members.ensures in
+    rw c.deref.ensures.value l.bounded

@@ -1,40 +1,34 @@
--- `read_numbers`: after i words the numbers read are the first i of the line.
-use mathlib.Core.Path.{refl, ap, ◌∙◌}
-use Prim.Native.Nat.{ℕ}
-use native.Mathlib.Omega.{arith}
-use lib.ListN.{length, drop, length-set}
-use borrow.Author.Tests.{eqb-true, eqb-false}
+-- `read_numbers`: after i words the numbers read are the first i of the text.
+use Rattle.std.proofs.Common.{◌≡◌, ℕ, ◌<◌, length, arith, ap, ◌∙◌, refl, length-set}
+use Rattle.std.proofs.lemmas.Grind.{common_steps}
 use Rattle.script_words.specs.Words.{after_words}
-use Rattle.script_numbers.proofs.Laws.{number_read, one_word_more, each_more}
+use Rattle.script_numbers.specs.Numbers.{number_at}
+use Rattle.script_numbers.proofs.Laws.{one_word_more, word_read, each_set, at_most}
 use Rattle.script_numbers.proofs.read_numbers.Goals as goal
-use Rattle.script_numbers.proofs.read_numbers.Goals.{else-loop-i-test, then-loop-i-test+in_default}
 
 pub loop-i-init : goal.loop-i-init
 unfolding after_words
-loop-i-init c = (omega arith, omega arith, refl, refl, λ k h. absurd (omega arith))
+loop-i-init g c = record { sized = grind (arith, common_steps); behind = refl; read = λ k h. absurd (omega arith) }
 
 pub loop-i-preserved : goal.loop-i-preserved
-loop-i-preserved c =
-    let line = c.args.line.now in
-    let xs = drop c.args.at line in
-    let limits = c.args.limits.now in
-    let n = number_read line limits xs c.loop-i.end _ _ c.loop-i.i c.next_word-word.ensures c.loop-i.invariant.3 c.decimal.result c.decimal.ensures in
-    (c.next_word-word.ensures.within, omega arith, simp length-set c.loop-i.invariant.2, one_word_more line limits xs c.loop-i.end _ _ c.loop-i.i c.next_word-word.ensures c.loop-i.invariant.3, each_more xs limits c.loop-i.value c.loop-i.i c.in-Is.number (omega arith) c.loop-i.invariant.4 (n ∙ c.in-Is.is))
+loop-i-preserved g c =
+    let xs = c.args.text.now in
+    let i = c.loop-i in
+    let n = c.in_ok-number.ensures in
+    let l : i.i < length i.numbers = omega (arith, i.invariant.sized) in
+    record {
+      sized = simp length-set i.invariant.sized;
+      behind = one_word_more xs _ i.i i.invariant.behind _ n.1;
+      read = each_set (number_at xs c.args.limits.now) i.numbers i.i c.in_ok-number.number i.invariant.read (word_read xs i.rest.now i.i i.invariant.behind _ _ n.0) l;
+    }
 
 pub returns : goal.returns
-returns c =
-    let line = c.args.line.now in
-    let xs = drop c.args.at line in
-    let limits = c.args.limits.now in
-    let i = c.loop-i.i in
+returns g c =
+    let i = c.loop-i.invariant in
+    let n : c.loop-i.i ≡ length c.args.limits.now = omega arith in
     record {
-      within = c.loop-i.invariant.0;
-      sized = c.loop-i.invariant.2;
-      read = λ t. let e = eqb-true i (length limits) t in (c.loop-i.invariant.3 ∙ ap (λ (k : ℕ). after_words k xs) e, λ k h. c.loop-i.invariant.4 k (omega arith));
-      refused =
-          λ t.
-          elim c.loop-i-test.branch [
-            | else-loop-i-test w ↦ absurd (eqb-false i (length limits) t (omega arith))
-            | then-loop-i-test+in_default w ↦ (i, (omega arith, number_read line limits xs c.loop-i.end _ _ i w.next_word-word.ensures c.loop-i.invariant.3 w.decimal.result w.decimal.ensures ∙ w.in_default.is))
-          ];
+      sized = i.sized;
+      behind = i.behind ∙ ap (λ (k : ℕ). after_words k c.args.text.now) n;
+      read = λ k h. i.read k (omega arith);
+      bounded = λ k h. at_most _ _ _ (i.read k (omega arith));
     }

@@ -1,18 +1,12 @@
-use mathlib.Core.Path.{◌≡◌}
-use Prim.Native.Nat.{ℕ, ◌-◌, ◌≤◌, ◌<◌}
-use lib.ListN.{length, drop, get_or}
-use Rattle.script_numbers.specs.declared.Number.TheVariants.{Is}
+use Rattle.std.proofs.Common.{◌≡◌, ℕ, ◌<◌, length, get_or, Some}
 use Rattle.script_words.specs.Words.{after_words}
-use Rattle.script_numbers.specs.Numbers.{numbers_most, number_at}
+use Rattle.script_numbers.specs.Numbers.{number_at}
 use Rattle.script_numbers.proofs.read_numbers.Given as goal
 
 abbrev pub invariant-loop-i : goal.invariant-loop-i
-invariant-loop-i l =
-    (l.end ≤ length l.line)
-    × (l.i ≤ length l.limits)
-    × (length l.value ≡ numbers_most)
-    × (drop l.end l.line ≡ after_words l.i (drop l.at l.line))
-    × ((k : ℕ) → k < l.i → number_at (drop l.at l.line) l.limits k ≡ Is (get_or l.value k 0))
-
-abbrev pub decreases-loop-i : goal.decreases-loop-i
-decreases-loop-i l = length l.limits - l.i
+invariant-loop-i g l =
+    record {
+      sized : length l.numbers ≡ length l.limits;
+      behind : l.rest ≡ after_words l.i l.text;
+      read : (k : ℕ) → k < l.i → number_at l.text l.limits k ≡ Some (get_or l.numbers k 0);
+    }

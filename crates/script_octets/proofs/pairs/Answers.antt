@@ -1,34 +1,32 @@
--- `pairs`: after i turns the first i octets are those that the word says.
-use mathlib.Core.Path.{refl, sym, ◌∙◌}
-use Prim.Native.Nat.{◌/◌}
-use native.Mathlib.Omega.{arith}
-use lib.ListN.{length, length-set}
-use lib.Seq.{length-take-le}
-use borrow.Author.Tests.{eqb-true, eqb-false}
-use Rattle.script_octets.proofs.Laws.{octets-more}
+-- `pairs`: after n turns the first n octets are those that the word says.
+use Rattle.std.proofs.Common.{◌*◌, length, arith, ◌∙◌, length-drop, sym, ap}
+use Rattle.script_octets.proofs.Laws.{rest_is, room_is, octets_more}
 use Rattle.script_octets.proofs.pairs.Goals as goal
-use Rattle.script_octets.proofs.pairs.Goals.{else-loop-i-test, then-loop-i-test+in_default}
 
-pub loop-i-init : goal.loop-i-init
-loop-i-init c = (omega arith, refl, λ k h. absurd (omega arith))
-
-pub loop-i-preserved : goal.loop-i-preserved
-loop-i-preserved c =
-    let a = c.args in
-    let e = sym c.pair.ensures ∙ c.in-Is.is in
-    (omega arith, simp length-set c.loop-i.invariant.1, octets-more a.word.now c.loop-i.out c.loop-i.i c.in-Is.octet (omega arith) c.loop-i.invariant.2 e)
+pub loop-digits-preserved : goal.loop-digits-preserved
+loop-digits-preserved c =
+    let s = c.in-Some.ensures.steps in
+    let i = c.loop-digits.invariant in
+    let m = c.in_ok-push.ensures.items in
+    let w = c.args.word.now in
+    let out = c.loop-digits.octets.items in
+    let v = c.in-Some-pair.octet in
+    let e = sym i.rest ∙ s.1.0 in
+    let l = s.1.1 ∙ i.size in
+    rw m (record {
+      can = omega arith;
+      finite = tt;
+      size = s.0 ∙ i.size;
+      rest = rest_is w out _ _ e l v;
+      room = room_is w out _ _ e l v;
+      read = octets_more w out _ _ e l v c.in-Some-pair.ensures i.read;
+    })
 
 pub returns : goal.returns
 returns c =
-    let a = c.args in
-    let i = c.loop-i.i in
-    record {
-      fits = (omega arith, sym (length-take-le i c.loop-i.out (omega arith)));
-      read = λ t. (eqb-true i (length a.word.now / 2) t, c.loop-i.invariant.2);
-      refused =
-          λ t.
-          elim c.loop-i-test.branch [
-            | else-loop-i-test w ↦ absurd (eqb-false i (length a.word.now / 2) t (omega arith))
-            | then-loop-i-test+in_default w ↦ (i, (omega arith, sym w.pair.ensures ∙ w.in_default.is))
-          ];
-    }
+    let s = c.in-None.ensures.steps in
+    let i = c.loop-digits.invariant in
+    let w = c.args.word.now in
+    let out = c.loop-digits.octets.items in
+    let l = length-drop (2 * length out) w in
+    record { many = omega (arith, l, ap length i.rest, s.1.0, i.room, i.size); read = i.read }

@@ -1,11 +1,15 @@
-use mathlib.Core.Path.{◌≡◌}
-use Prim.Native.Nat.{◌-◌, ◌≤◌}
-use lib.ListN.{length}
+use Rattle.std.proofs.Common.{◌≡◌, ◌*◌, ◌≤◌, length, drop}
+use Rattle.std.specs.Slice.Iter.{chunks_exact_rest, chunks_exact_size}
 use Rattle.script_octets.specs.Octets.{Are}
 use Rattle.script_octets.proofs.pairs.Given as goal
 
-abbrev pub invariant-loop-i : goal.invariant-loop-i
-invariant-loop-i l = (l.i ≤ l.n) × (length l.out ≡ length l.initial.out) × Are l.word l.out l.i
-
-abbrev pub decreases-loop-i : goal.decreases-loop-i
-decreases-loop-i l = l.n - l.i
+abbrev pub invariant-loop-digits : goal.invariant-loop-digits
+invariant-loop-digits l =
+    record {
+      can : (goal.iterator-loop-digits).can_next l.digits-iterator;
+      finite : (goal.iterator-loop-digits).is_finite l.digits-iterator;
+      size : chunks_exact_size l.digits-iterator ≡ 2;
+      rest : chunks_exact_rest l.digits-iterator ≡ drop (2 * length l.octets.items) l.fn.word;
+      room : 2 * length l.octets.items ≤ length l.fn.word;
+      read : Are l.fn.word l.octets.items;
+    }

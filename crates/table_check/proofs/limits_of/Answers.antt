@@ -9,7 +9,5 @@ use Rattle.table_check.proofs.limits_of.Goals as goal
 pub returns : goal.returns
 returns c =
     let xs = c.args.cells.now in
-    let k = c.requires in (
-      describes xs k.used-least k.used-most _ refl refl refl (λ i. get_or xs (own_place 0) 0 ∷ c.own_at.ensures i ∷ c.own_at-2.ensures i ∷ c.own_at-3.ensures i ∷ []),
-      record { least = k.window-least; most = k.window-most },
-    )
+    let k = c.requires in
+    describes xs k.used-least k.used-most _ refl refl refl (λ i. get_or xs (own_place 0) 0 ∷ c.own_at.ensures i ∷ c.own_at-2.ensures i ∷ c.own_at-3.ensures i ∷ [])

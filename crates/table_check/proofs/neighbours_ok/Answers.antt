@@ -1,48 +1,69 @@
--- The loop's invariant: the scan of the rows to come is the scan of all; what follows the rows is zero.
-use mathlib.Core.Path.{◌≡◌, refl, sym, ap, ◌∙◌}
-use Prim.Native.Nat.{◌+◌, ◌*◌}
-use native.Mathlib.Omega.{arith}
-use mathlib.Core.Bool.{Bool, ◌&&◌}
-use lib.ListN.{get_or}
-use mathlib.Core.Logic.{⊎_elim}
-use lib.Dec.{leb, eqb}
-use borrow.Author.Tests.{eq-eqb, ne_eqb, eqb-true}
-use Rattle.cells.specs.Area.{all_zero}
+-- The loop goes on past a row that may be held, and ends at one that may not, or behind the last.
+use Rattle.std.proofs.Common.{refl, ◌≡◌, Bool, true, false, ◌&&◌, length, get_or, drop, ap, sym, ◌∙◌, arith, length-drop}
+use mathlib.Core.Bool.{and-false}
+use lib.Dec.{leb}
+use lib.Seq.{length-take-le}
 use Rattle.lists.proofs.Tests.{and_right}
-use Rattle.rules.specs.Settings.{neighbour_cells}
-use Rattle.table_layout.specs.Layout.{rows_at, neighbours_from}
-use Rattle.table_check.proofs.Turns.{neighbours_next, neighbours_stop, neighbours_end, neighbour_small, neighbours_done, unused-rows}
+use Rattle.std.specs.Slice.Iter.{chunks_exact_rest, chunks_exact_size}
+use Rattle.cells.specs.Area.{all_zero, rows_of, scan}
+use Rattle.cells.proofs.Chunks.{pass_starts, pass_ends, pass-next, pass_stops}
+use Rattle.rules.specs.Settings.{neighbour_cells, neighbour_area_cells}
+use Rattle.table_layout.specs.Layout.{rows_at, neighbours_from, neighbour_part}
+use Rattle.table_check.proofs.Turns.{neighbour_row, neighbour_small, neighbours_done}
 use Rattle.table_check.proofs.neighbours_ok.Goals as goal
+use Rattle.table_check.proofs.neighbours_ok.Goals.{After-neighbour_ok}
 
-pub loop-left-init : goal.loop-left-init
-loop-left-init c = (refl, refl)
+-- what a turn tests
+test : (c : goal.After-neighbour_ok) → leb c.loop-row.low (get_or c.in-Some.row.now 0 0) && neighbour_row c.args.cells.now c.in-Some.row.now ≡ leb c.loop-row.low (get_or c.in-Some.row.now 0 0) && c.neighbour_ok.result
+test c = ap (λ (b : Bool). leb c.loop-row.low (get_or c.in-Some.row.now 0 0) && b) (sym c.neighbour_ok.ensures)
+
+pub loop-row-init : goal.loop-row-init
+loop-row-init c =
+    let cells = c.args.cells.now in
+    let it = c.into_iter-row-iterator.ensures.into_iter_gives in
+    let chunks = c.chunks_exact-row-items.ensures in
+    let few = c.requires.0.rows in
+    let size : length (neighbour_part cells) ≡ neighbour_area_cells = length-take-le neighbour_area_cells (drop neighbours_from cells) (rw (length-drop neighbours_from cells) (omega (arith, c.requires.0.size))) in
+    record {
+      size = ap chunks_exact_size it ∙ chunks.size;
+      tests = pass_starts (neighbour_row cells) neighbour_cells (get_or cells rows_at 0) (neighbour_part cells) _ (omega arith) (ap chunks_exact_rest it ∙ chunks.rest ∙ c.split_at.ensures.front);
+    }
+
+pub returns-then-not-all_zero : goal.returns-then-not-all_zero
+returns-then-not-all_zero c =
+    let cells = c.args.cells.now in
+    let rows = scan (neighbour_row cells) 0 (rows_of neighbour_cells (get_or cells rows_at 0) (neighbour_part cells)) in
+    sym (and-false rows) ∙ neighbours_done cells rows false refl (sym c.if-not-all_zero.true ∙ c.all_zero.ensures ∙ ap all_zero c.split_at.ensures.back)
+
+pub returns-then-not-low-pair : goal.returns-then-not-low-pair
+returns-then-not-low-pair c =
+    let cells = c.args.cells.now in
+    let l = c.loop-row in
+    let s = c.in-Some.ensures.steps in
+    neighbours_done cells false (all_zero c.split_at.result.1.now)
+    (pass_stops (neighbour_row cells) neighbour_cells (omega arith) l.low _ _ _ s.1.0 (s.1.1 ∙ l.invariant.size) _ (test (goal.at.returns-then-not-low-pair c).After-neighbour_ok ∙ c.if-not-low-pair.true) l.invariant.tests)
+    (ap all_zero c.split_at.ensures.back)
 
 pub overflow_add-low : goal.overflow_add-low
 overflow_add-low c =
-    let l = c.loop-left in
-    let xs = c.args.cells.now in
-    let ok = c.neighbour_ok in
-    let h = and_right (leb l.low (get_or xs l.at 0)) ok.result (c.if-not-low-pair.false) in
-    omega (arith, neighbour_small xs (get_or xs l.at 0) (get_or xs (l.at + 1) 0) (sym ok.ensures ∙ h))
+    let x = c.in-Some.row.now in
+    let h = and_right (leb c.loop-row.low (get_or x 0 0)) c.neighbour_ok.result (c.if-not-low-pair.false) in
+    omega (arith, neighbour_small c.args.cells.now (get_or x 0 0) (get_or x 1 0) (sym c.neighbour_ok.ensures ∙ h))
 
-pub loop-left-preserved : goal.loop-left-preserved
-loop-left-preserved c =
-    let l = c.loop-left in
-    let xs = c.args.cells.now in
-    let ok = c.neighbour_ok in (
-      omega arith,
-      sym (neighbours_next xs l.low l.at l.left (leb l.low (get_or xs l.at 0) && ok.result) (ap (λ (b : Bool). leb l.low (get_or xs l.at 0) && b) ok.ensures) (omega arith) (c.if-not-low-pair.false)) ∙ l.invariant.1,
-    )
+pub loop-row-preserved : goal.loop-row-preserved
+loop-row-preserved c =
+    let l = c.loop-row in
+    let s = c.in-Some.ensures.steps in
+    record {
+      size = s.0 ∙ l.invariant.size;
+      tests = pass-next (neighbour_row c.args.cells.now) neighbour_cells (omega arith) l.low _ _ _ s.1.0 (s.1.1 ∙ l.invariant.size) _ (test (goal.at.loop-row-preserved c).After-neighbour_ok ∙ c.if-not-low-pair.false) l.invariant.tests;
+    }
 
 pub returns : goal.returns
 returns c =
-    let l = c.loop-left in
-    let xs = c.args.cells.now in
-    let few = c.requires.0.rows in
-    let first = leb l.low (get_or xs l.at 0) in
-    neighbours_done xs (eqb l.left 0) c.all_zero.result few
-    (⊎_elim
-    (λ w. eq-eqb l.left 0 (omega arith) ∙ sym (neighbours_end xs l.low l.at l.left (omega arith)))
-    (λ w. ne_eqb l.left 0 (omega arith) ∙ sym (neighbours_stop xs l.low l.at l.left (first && w.neighbour_ok.result) (ap (λ (b : Bool). first && b) w.neighbour_ok.ensures) (omega arith) w.if-not-low-pair.true))
-    c.loop-left-test.branch-raw ∙ l.invariant.1)
-    (λ t. let z = eqb-true l.left 0 t in let at : l.at ≡ neighbours_from + get_or xs rows_at 0 * neighbour_cells = omega arith in c.all_zero.ensures ∙ ap all_zero (unused-rows xs l.at at few))
+    let cells = c.args.cells.now in
+    let l = c.loop-row in
+    let s = c.in-None.ensures.steps in
+    neighbours_done cells true true
+    (pass_ends (neighbour_row cells) neighbour_cells l.low _ _ (omega (arith, s.1.0, l.invariant.size)) l.invariant.tests)
+    (sym c.if-not-all_zero.false ∙ c.all_zero.ensures ∙ ap all_zero c.split_at.ensures.back)

@@ -1,46 +1,55 @@
--- The loop's invariant: the scan of the records to come is the scan of all; what follows them is zero.
-use Rattle.table_record.specs.Record.{address_at}
-use mathlib.Core.Path.{◌≡◌, refl, sym, ap, ◌∙◌, subst}
-use Prim.Native.Nat.{ℕ, ◌+◌, ◌*◌, ◌-◌, ◌<◌}
-use native.Mathlib.Omega.{arith}
-use lib.ListN.{take, drop, get_or}
-use mathlib.Core.Logic.{⊎_elim}
-use lib.Dec.{eqb}
-use borrow.Author.Tests.{eq-eqb, ne_eqb, eqb-true}
-use Rattle.cells.specs.Area.{all_zero}
-use Rattle.cells.proofs.Lent.{part_first, tail_is}
-use Rattle.rules.specs.Settings.{addresses, record_cells}
-use Rattle.table_check.proofs.Turns.{records-next, records_stop, records_end, records-done}
+-- The loop goes on past a record that may be held, and ends at one that may not, or behind the last.
+use Rattle.std.proofs.Common.{refl, ap, sym, ◌∙◌, true, false, arith}
+use mathlib.Core.Bool.{and-false}
+use Rattle.std.specs.Slice.Iter.{chunks_exact_rest, chunks_exact_size}
+use Rattle.cells.specs.Area.{all_zero, rows_of, scan}
+use Rattle.cells.proofs.Chunks.{pass_starts, pass_ends, pass-next, pass_stops}
+use Rattle.rules.specs.Settings.{record_cells}
+use Rattle.table_record.specs.Record.{record_ok}
+use Rattle.table_check.proofs.Turns.{records-done}
 use Rattle.table_check.proofs.records_ok.Goals as goal
 
-pub loop-left-init : goal.loop-left-init
-loop-left-init c = (omega arith, λ κ time d. refl)
+pub loop-row-init : goal.loop-row-init
+loop-row-init c =
+    let a = c.args in
+    let it = c.into_iter-row-iterator.ensures.into_iter_gives in
+    let chunks = c.chunks_exact-row-items.ensures in
+    record {
+      size = ap chunks_exact_size it ∙ chunks.size;
+      tests = λ κ time d. pass_starts (record_ok κ time) record_cells a.n a.part.now _ (omega arith) (ap chunks_exact_rest it ∙ chunks.rest ∙ c.split_at.ensures.front);
+    }
 
-pub overflow_add-low : goal.overflow_add-low
-overflow_add-low c =
-    let l = c.loop-left in
-    let p = c.args.part.now in
-    let e : get_or (take (l.at + record_cells - l.at) (drop l.at p)) address_at 0 ≡ get_or p l.at 0 = part_first p l.at record_cells (omega arith) (omega arith) in
-    let h : get_or p l.at 0 < addresses = subst (λ (k : ℕ). k < addresses) e (c.record_ok.ensures.small (c.if-not-record_ok.false)) in
-    omega (arith, h)
+pub returns-then-not-all_zero : goal.returns-then-not-all_zero
+returns-then-not-all_zero c =
+    let a = c.args in
+    λ κ time d.
+    let rows = scan (record_ok κ time) 0 (rows_of record_cells a.n a.part.now) in
+    sym (and-false rows) ∙ records-done κ time a.n a.part.now rows false refl (sym c.if-not-all_zero.true ∙ c.all_zero.ensures ∙ ap all_zero c.split_at.ensures.back)
 
-pub loop-left-preserved : goal.loop-left-preserved
-loop-left-preserved c =
-    let l = c.loop-left in
-    let p = c.args.part.now in
-    let ok = c.record_ok in (
-      omega arith,
-      λ κ time d. sym (records-next κ time l.low p l.at l.left (omega arith) ok.result (ok.ensures.tests κ time d) (omega arith) (c.if-not-record_ok.false)) ∙ l.invariant.1 κ time d,
-    )
+pub returns-then-not-record_ok : goal.returns-then-not-record_ok
+returns-then-not-record_ok c =
+    let a = c.args in
+    let l = c.loop-row in
+    let s = c.in-Some.ensures.steps in
+    λ κ time d. records-done κ time a.n a.part.now false (all_zero c.split_at.result.1.now)
+    (pass_stops (record_ok κ time) record_cells (omega arith) l.low _ _ _ s.1.0 (s.1.1 ∙ l.invariant.size) _ (sym (c.record_ok.ensures.tests κ time d) ∙ c.if-not-record_ok.true) (l.invariant.tests κ time d))
+    (ap all_zero c.split_at.ensures.back)
+
+pub loop-row-preserved : goal.loop-row-preserved
+loop-row-preserved c =
+    let l = c.loop-row in
+    let s = c.in-Some.ensures.steps in
+    record {
+      size = s.0 ∙ l.invariant.size;
+      tests = λ κ time d.
+          pass-next (record_ok κ time) record_cells (omega arith) l.low _ _ _ s.1.0 (s.1.1 ∙ l.invariant.size) _ (sym (c.record_ok.ensures.tests κ time d) ∙ c.if-not-record_ok.false) (l.invariant.tests κ time d);
+    }
 
 pub returns : goal.returns
 returns c =
-    let l = c.loop-left in
     let a = c.args in
-    let p = a.part.now in
-    λ κ time d. records-done κ time a.n p (eqb l.left 0) c.all_zero.result
-    (⊎_elim
-    (λ w. eq-eqb l.left 0 (omega arith) ∙ sym (records_end κ time l.low p l.at l.left (omega arith)))
-    (λ w. ne_eqb l.left 0 (omega arith) ∙ sym (records_stop κ time l.low p l.at l.left (omega arith) w.record_ok.result (w.record_ok.ensures.tests κ time d) (omega arith) w.if-not-record_ok.true))
-    c.loop-left-test.branch-raw ∙ l.invariant.1 κ time d)
-    (λ t. let z = eqb-true l.left 0 t in let at : l.at ≡ a.n * record_cells = omega arith in c.all_zero.ensures ∙ ap all_zero (tail_is p l.at) ∙ ap (λ (k : ℕ). all_zero (drop k p)) at)
+    let l = c.loop-row in
+    let s = c.in-None.ensures.steps in
+    λ κ time d. records-done κ time a.n a.part.now true true
+    (pass_ends (record_ok κ time) record_cells l.low _ _ (omega (arith, s.1.0, l.invariant.size)) (l.invariant.tests κ time d))
+    (sym c.if-not-all_zero.false ∙ c.all_zero.ensures ∙ ap all_zero c.split_at.ensures.back)

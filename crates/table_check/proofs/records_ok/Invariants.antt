@@ -1,12 +1,16 @@
-use mathlib.Core.Path.{◌≡◌}
-use Prim.Native.Nat.{ℕ, ◌+◌, ◌*◌}
+-- Over the records that are left the pass comes out as over all.
+use Rattle.std.proofs.Common.{◌≡◌, ℕ}
+use Rattle.std.specs.Slice.Iter.{chunks_exact_rest, chunks_exact_size}
+use Rattle.cells.specs.Area.{rows_of, scan}
+use Rattle.cells.proofs.Chunks.{PassesOn}
 use Rattle.rules.specs.Settings.{Config, record_cells}
+use Rattle.table_record.specs.Record.{record_ok}
 use Rattle.table_record_check.specs.Limits.{Describes}
-use Rattle.table_check.proofs.Turns.{records_from_lem}
 use Rattle.table_check.proofs.records_ok.Given as goal
 
-abbrev pub invariant-loop-left : goal.invariant-loop-left
-invariant-loop-left l = (l.at + l.left * record_cells ≡ l.n * record_cells) × ((κ : Config) (time : ℕ) → Describes κ time l.limits → records_from_lem κ time l.low l.part l.at l.left ≡ records_from_lem κ time 0 l.part 0 l.n)
-
-abbrev pub decreases-loop-left : goal.decreases-loop-left
-decreases-loop-left l = l.left
+abbrev pub invariant-loop-row : goal.invariant-loop-row
+invariant-loop-row l = record {
+  size : chunks_exact_size l.row-iterator ≡ record_cells;
+  tests : (κ : Config) (time : ℕ) → Describes κ time l.limits
+      → PassesOn (record_ok κ time) record_cells l.low (chunks_exact_rest l.row-iterator) (scan (record_ok κ time) 0 (rows_of record_cells l.n l.part));
+}

@@ -73,14 +73,14 @@ pub records_ok-requires : goal.records_ok-requires
 records_ok-requires c =
     let k = size (goal.at.records_ok-requires c).Else-not-neighbours_ok in
     let r = k.records in
-    (omega (arith, k.size, tail_length c.args.cells.now records_from), c.limits_of-limits.ensures.1)
+    omega (arith, k.size, tail_length c.args.cells.now records_from)
 
 pub returns : goal.returns
 unfolding records_ok
 returns c =
     let xs = c.args.cells.now in
     let e : c.records_ok.result ≡ record_rows_ok (config_in xs) (get_or xs time_at 0) (get_or xs records_at 0) (drop records_from xs) =
-    c.records_ok.ensures (config_in xs) (get_or xs time_at 0) c.limits_of-limits.ensures.0 ∙ ap (record_rows_ok (config_in xs) (get_or xs time_at 0) (get_or xs records_at 0)) (tail_is xs records_from) in
+    c.records_ok.ensures (config_in xs) (get_or xs time_at 0) c.limits_of-limits.ensures ∙ ap (record_rows_ok (config_in xs) (get_or xs time_at 0) (get_or xs records_at 0)) (tail_is xs records_from) in
     last_test xs c.records_ok.result (omega arith) (heads (goal.at.returns c).Else-not-head_ok) (interfaces (goal.at.returns c).Else-not-interfaces_ok) (neighbours (goal.at.returns c).Else-not-neighbours_ok) e
 
 pub slice_bounds-records_ok-count : goal.slice_bounds-records_ok-count

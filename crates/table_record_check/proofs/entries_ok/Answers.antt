@@ -1,30 +1,22 @@
--- `entries_ok`: the faults so far are none and the entries to come pass exactly where all do.
-use mathlib.Core.Path.{refl, sym, ap, ◌∙◌}
-use mathlib.Core.Bool.{Bool, ◌&&◌, and-true}
-use Prim.Native.Nat.{ℕ}
-use native.Mathlib.Omega.{arith}
+-- The joined faults are 0 exactly where every entry passes.
+use Rattle.std.proofs.Common.{ℕ, sym, ap, ◌∙◌, take, bit_or, arith}
+use Rattle.std.specs.Prelude.{fold}
 use lib.Dec.{eqb}
+use lib.Seq.{take_all, length-take-le}
 use Rattle.lists.specs.Lists.{and}
-use Rattle.cells.specs.Area.{fit}
-use Rattle.cells.proofs.Areas.{length-fit, get_or_fit}
-use Rattle.cells.proofs.Keys.{joined-next, joined_end}
-use Rattle.rules.specs.WellFormed.{entry_tests}
+use Rattle.cells.proofs.Areas.{fit-take}
+use Rattle.cells.proofs.Keys.{joined}
+use Rattle.rules.specs.WellFormed.{entry_tests, entries_ok}
+use Rattle.table_record_check.specs.Limits.{entry_fault}
+use Rattle.table_record_check.proofs.Checks.{entry-tests}
 use Rattle.table_record_check.proofs.entries_ok.Goals as goal
-
-pub loop-i-init : goal.loop-i-init
-loop-i-init c = (omega arith, refl)
-
-pub loop-i-preserved : goal.loop-i-preserved
-loop-i-preserved c =
-    let l = c.loop-i in
-    let a = c.args in
-    let es = fit a.n a.part.now in
-    let f = c.entry_fault-bits.ensures ∙ ap (λ (x : ℕ). and (entry_tests x)) (sym (get_or_fit a.n a.part.now l.i (omega arith))) in
-    (omega arith, sym (joined-next (λ x. and (entry_tests x)) es l.i (omega (arith, length-fit a.n a.part.now)) l.bits c.entry_fault-bits.result f) ∙ l.invariant.1)
 
 pub returns : goal.returns
 returns c =
-    let l = c.loop-i in
-    let a = c.args in
-    let es = fit a.n a.part.now in
-    sym (and-true (eqb l.bits 0)) ∙ ap (λ (b : Bool). eqb l.bits 0 && b) (sym (joined_end (λ x. and (entry_tests x)) es l.i (omega (arith, length-fit a.n a.part.now)))) ∙ l.invariant.1
+    let part = c.args.part.now in
+    let n = c.args.n in
+    let l = c.loop-entry in
+    let size = length-take-le n part (omega arith) in
+    ap (λ (k : ℕ). eqb k 0) (l.invariant ∙ ap (fold (λ b x. bit_or b (entry_fault x)) 0) (take_all l.entry-index (take n part) (omega (arith, size))))
+    ∙ joined entry_fault (λ x. and (entry_tests x)) entry-tests (take n part)
+    ∙ ap entries_ok (sym (fit-take n part (omega arith)))

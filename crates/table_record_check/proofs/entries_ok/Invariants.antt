@@ -1,14 +1,8 @@
-use mathlib.Core.Path.{◌≡◌}
-use mathlib.Core.Bool.{◌&&◌}
-use Prim.Native.Nat.{◌-◌, ◌≤◌}
-use lib.Dec.{eqb}
-use lib.ListN.{drop}
-use Rattle.cells.specs.Area.{fit}
-use Rattle.rules.specs.WellFormed.{entries_ok}
+-- The faults of the entries so far are joined.
+use Rattle.std.proofs.Common.{◌≡◌, take, bit_or}
+use Rattle.std.specs.Prelude.{fold}
+use Rattle.table_record_check.specs.Limits.{entry_fault}
 use Rattle.table_record_check.proofs.entries_ok.Given as goal
 
-abbrev pub invariant-loop-i : goal.invariant-loop-i
-invariant-loop-i l = (l.i ≤ l.n) × ((eqb l.bits 0 && entries_ok (drop l.i (fit l.n l.part))) ≡ entries_ok (fit l.n l.part))
-
-abbrev pub decreases-loop-i : goal.decreases-loop-i
-decreases-loop-i l = l.n - l.i
+abbrev pub invariant-loop-entry : goal.invariant-loop-entry
+invariant-loop-entry l = l.faults ≡ fold (λ b x. bit_or b (entry_fault x)) 0 (take l.entry-index (take l.n l.part))

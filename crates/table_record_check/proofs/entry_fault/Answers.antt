@@ -1,6 +1,6 @@
--- `entry_fault`: what is beyond an address before the mask, and what a mask that is too long carries over.
+-- The number that is computed is 0 exactly where the entry passes its tests.
 use Rattle.table_record_check.proofs.Checks.{entry-tests}
 use Rattle.table_record_check.proofs.entry_fault.Goals as goal
 
-pub returns : goal.returns
-returns c = entry-tests c.args.entry
+pub returns-clause-tests : goal.returns-clause-tests
+returns-clause-tests c = entry-tests c.args.entry

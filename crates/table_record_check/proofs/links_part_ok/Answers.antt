@@ -18,13 +18,13 @@ use Rattle.table_record_check.proofs.links_part_ok.Goals.{After-links_part-part}
 -- the links held are in their part
 within : (c : goal.After-links_part-part) → get_or c.args.row.now links_at 0 * link_cells ≤ length c.links_part-part.result.now
 within c =
-    omega (arith, c.requires.2, ap length c.links_part-part.ensures, part_size c.args.row.now c.requires.0)
+    omega (arith, c.requires.1, ap length c.links_part-part.ensures, part_size c.args.row.now c.requires.0)
 
 pub overflow_mul-end : goal.overflow_mul-end
 overflow_mul-end c = omega (arith, within (goal.at.overflow_mul-end c).After-links_part-part)
 
 pub links_ok-requires : goal.links_ok-requires
-links_ok-requires c = (omega (arith, within (goal.at.links_ok-requires c).After-links_part-part), c.requires.1)
+links_ok-requires c = omega (arith, within (goal.at.links_ok-requires c).After-links_part-part)
 
 pub slice_bounds-all_zero-start : goal.slice_bounds-all_zero-start
 slice_bounds-all_zero-start c = omega (arith, within (goal.at.slice_bounds-all_zero-start c).After-links_part-part)

@@ -17,10 +17,10 @@ returns-then-not-fields_ok c =
     }
 
 pub links_part_ok-requires : goal.links_part_ok-requires
-links_part_ok-requires c = (c.requires.0, c.requires.1, c.fields_ok.ensures.few (c.if-not-fields_ok.false))
+links_part_ok-requires c = (c.requires, c.fields_ok.ensures.few (c.if-not-fields_ok.false))
 
 pub entries_part_ok-requires : goal.entries_part_ok-requires
-entries_part_ok-requires c = (c.requires.0, c.fields_ok.ensures.few_entries (c.if-not-fields_ok.false))
+entries_part_ok-requires c = (c.requires, c.fields_ok.ensures.few_entries (c.if-not-fields_ok.false))
 
 pub returns : goal.returns
 returns c =

@@ -1,37 +1,24 @@
--- The loop's invariant: the test of the rows to come is the test of all; what follows the rows is zero.
-use mathlib.Core.Path.{◌≡◌, refl, sym, ap, ◌∙◌}
-use Prim.Native.Nat.{ℕ, ◌*◌}
-use native.Mathlib.Omega.{arith}
-use lib.ListN.{drop}
-use mathlib.Core.Logic.{⊎_elim}
-use lib.Dec.{eqb}
-use borrow.Author.Tests.{eq-eqb, ne_eqb, eqb-true}
+-- The rows in use are the chunks, and what is behind them is zero.
+use Rattle.std.proofs.Common.{rules, ◌≡◌, ◌&&◌, ◌*◌, List, ℕ, length, take, ◌∙◌, ap, arith}
+use Rattle.std.specs.Slice.Iter.{chunks_exact_rest}
 use Rattle.lists.specs.Lists.{all}
 use Rattle.cells.specs.Area.{all_zero, rows_of}
-use Rattle.cells.proofs.Lent.{tail_is}
+use Rattle.cells.proofs.Chunks.{all_rows}
+use Rattle.cells.proofs.Trips.{rows_take}
 use Rattle.rules.specs.Settings.{interface_cells}
 use Rattle.table_settings.specs.Check.{interface_row_ok}
-use Rattle.table_settings.proofs.Turns.{interfaces-next, interfaces_stop, interfaces_end, first_then}
 use Rattle.table_settings.proofs.interface_rows_ok.Goals as goal
-
-pub loop-left-init : goal.loop-left-init
-loop-left-init c = (omega arith, refl)
-
-pub loop-left-preserved : goal.loop-left-preserved
-loop-left-preserved c =
-    let l = c.loop-left in
-    let p = c.args.part.now in
-    let ok = c.interface_row_ok in
-    (omega arith, sym (interfaces-next p l.at l.left (omega arith) ok.result ok.ensures (omega arith) (c.if-not-interface_row_ok.false)) ∙ l.invariant.1)
 
 pub returns : goal.returns
 returns c =
-    let l = c.loop-left in
-    let a = c.args in
-    let p = a.part.now in
-    first_then (eqb l.left 0) c.all_zero.result (all_zero (drop (a.used * interface_cells) p)) (all interface_row_ok (rows_of interface_cells a.used p))
-    (⊎_elim
-    (λ w. eq-eqb l.left 0 (omega arith) ∙ sym (interfaces_end p l.at l.left (omega arith)))
-    (λ w. ne_eqb l.left 0 (omega arith) ∙ sym (interfaces_stop p l.at l.left (omega arith) w.interface_row_ok.result w.interface_row_ok.ensures (omega arith) w.if-not-interface_row_ok.true))
-    c.loop-left-test.branch-raw ∙ l.invariant.1)
-    (λ t. let z = eqb-true l.left 0 t in let at : l.at ≡ a.used * interface_cells = omega arith in c.all_zero.ensures ∙ ap all_zero (tail_is p l.at) ∙ ap (λ (k : ℕ). all_zero (drop k p)) at)
+    let part = c.args.part.now in
+    let n = c.args.used in
+    let chunks = c.chunks_exact.result in
+    let rows : chunks_exact_rest chunks ≡ take (n * interface_cells) part = c.chunks_exact.ensures.rest ∙ c.split_at.ensures.front in
+    let h = c.all.ensures.ran in
+    let t : c.all.result ≡ all interface_row_ok (rows_of interface_cells n (chunks_exact_rest chunks)) =
+    all_rows _ _ interface_row_ok interface_cells (omega arith) (λ x b q k. search rules) h.0 n chunks h.3.0 _ h.1 h.2 c.all.result c.chunks_exact.ensures.size
+    (ap length c.chunks_exact.ensures.rest ∙ c.split_at.ensures.front_len) h.3.1 h.3.2 h.4 h.5 in
+    let r = t ∙ ap (λ (l : List ℕ). all interface_row_ok (rows_of interface_cells n l)) rows ∙ ap (all interface_row_ok) (rows_take interface_cells n (n * interface_cells) part (omega arith)) in
+    let z = c.all_zero.ensures ∙ ap all_zero c.split_at.ensures.back in
+    λ i. r i && z i

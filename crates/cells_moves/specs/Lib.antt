@@ -1,0 +1,2 @@
+-- Rows in lent cells.
+pub mod Keeping

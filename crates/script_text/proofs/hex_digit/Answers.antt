@@ -1,9 +1,0 @@
--- `hex_digit`: each of the two ranges of values is within an octet.
-use borrow.Author.Tests.{lt-ltb, le-ltb}
-use Rattle.script_text.proofs.hex_digit.Goals as goal
-
-pub returns-then-value-lt10 : goal.returns-then-value-lt10
-returns-then-value-lt10 c = rw (lt-ltb c.args.value 10 c.if-value-lt10.true)
-
-pub returns-else-value-lt10 : goal.returns-else-value-lt10
-returns-else-value-lt10 c = rw (le-ltb c.args.value 10 c.if-value-lt10.false)
