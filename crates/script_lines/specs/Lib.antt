@@ -1,2 +1,3 @@
--- What a line that is read keeps to.
+-- What a line that is read keeps to, and what make is given.
 pub mod Requests
+pub mod Tables

@@ -40,8 +40,13 @@ fn read_tie(text: &[u8]) -> Option<u64>
 }
 
 impl Table {
+    ghost use Rattle.std.specs.Prelude.{IfSome};
+    ghost use Rattle.script_lines.specs.Tables.{ReadSettings};
+
     // A table, whose numbers are all that a text has.
-    pub fn read(text: &[u8]) -> Option<Self> {
+    pub fn read(text: &[u8]) -> Option<Self>
+        ensures { IfSome result (ReadSettings text.now) }
+    {
         let ([version, window, timeout, purge, capacity, used], rest) = read_numbers(
             text,
             &[MOST_64; 6],
