@@ -73,12 +73,14 @@ fn first_breaking<F: Fn(usize) -> bool>(hna: &[u8], breaks: F) -> Option<usize>
     requires { (k : ℕ) → k < C.entries hna.now → F.pre breaks k }
     ensures { (rule : List ℕ → ℕ → Bool) → ((k : ℕ) (b : Bool) → k < C.entries hna.now → F.post breaks k b → b ≡ rule hna.now k) → place_of (C.first_breaking rule hna.now) ≡ result }
 {
+    let mut first = None;
     for k in 0..entry_count(hna) {
         if breaks(k) {
-            return Some(k);
+            first = Some(k);
+            break;
         }
     }
-    None
+    first
 }
 
 // What is refused of HNA octets, received or to be written. A mask above 32 goes first, wherever it stands.
