@@ -4,11 +4,19 @@ use script_answers::{BurstLines, ListLines, NumberLine, OwnLine, ReceiveLine};
 use script_lines::bursts::Burst;
 use script_lines::requests::{Own, Receive};
 use script_lines::tables::Table;
-use std::alloc::{AllocError, Global};
+use std::alloc::AllocError;
 use std::fmt::Write;
 
 // Each octet of an output before a call.
 const FILLER: u8 = 238;
+
+// The part of the output that is lent to a call.
+fn lent(out: &mut [u8], room: usize) -> &mut [u8] {
+    let room = room.min(out.len());
+    let part = &mut out[..room];
+    part.fill(FILLER);
+    part
+}
 
 pub fn make(cells: &mut [u64], table: &Table, text: &mut String) -> Result<(), AllocError> {
     let row = table.rows;
@@ -22,69 +30,65 @@ pub fn make(cells: &mut [u64], table: &Table, text: &mut String) -> Result<(), A
 }
 
 pub fn receive(
-    alloc: Global,
     cells: &mut [u64],
-    call: &Receive,
+    call: &Receive<'_>,
+    out: &mut [u8],
     text: &mut String,
 ) -> Result<(), AllocError> {
-    let mut out = vec![in alloc; FILLER; call.output]?;
+    let out = lent(out, call.output);
     let received = batman::batman_receive(
         cells,
-        &call.packet,
+        call.packet,
         call.sender,
         call.interface,
         call.time,
-        &mut out,
+        out,
     );
     let line = ReceiveLine {
         received: &received,
         length: call.packet.len(),
-        out: &out,
+        out,
     };
     write!(text, "{line}")
 }
 
 pub fn burst(
-    alloc: Global,
     cells: &mut [u64],
-    call: &Burst,
+    call: &Burst<'_>,
+    out: &mut [u8],
     text: &mut String,
 ) -> Result<(), AllocError> {
-    let mut out = vec![in alloc; FILLER; call.output]?;
+    let out = lent(out, call.output);
     let answers = call_burst::burst(
         cells,
-        &call.octets,
-        &call.lengths,
-        &call.senders,
-        &call.interfaces,
+        call.octets,
+        call.lengths,
+        call.senders,
+        call.interfaces,
         call.time,
-        &mut out,
+        out,
         call.rows,
     );
-    let lines = match &answers {
-        Ok(answers) => BurstLines {
-            number: 0,
-            packets: &answers.rows[..answers.n],
-            written: answers.written,
-            out: &out,
-        },
-        Err(refusal) => BurstLines {
-            number: refusal.number(),
-            packets: &[],
-            written: 0,
-            out: &out,
-        },
+    let (number, packets, written) = match &answers {
+        Ok(answers) => (0, &answers.rows[..answers.n], answers.written),
+        Err(refusal) => (refusal.number(), &[][..], 0),
+    };
+    let lines = BurstLines {
+        number,
+        packets,
+        written,
+        out: &*out,
     };
     write!(text, "{lines}")
 }
 
 pub fn own(
-    alloc: Global,
     cells: &mut [u64],
-    call: &Own,
+    call: &Own<'_>,
+    out: &mut [u8],
     text: &mut String,
 ) -> Result<(), AllocError> {
-    let mut out = vec![in alloc; FILLER; call.output]?;
+    let out = lent(out, call.output);
     let written = batman::batman_own_packet(
         cells,
         call.interface,
@@ -92,12 +96,12 @@ pub fn own(
         call.ttl,
         call.flags,
         call.port,
-        &call.hna,
-        &mut out,
+        call.hna,
+        out,
     );
     let line = OwnLine {
         written: &written,
-        out: &out,
+        out,
     };
     write!(text, "{line}")
 }

@@ -1,7 +1,8 @@
 // Lines: put together from the pieces that are read, and each answered.
 use crate::calls;
 use script_answers::{BestLine, CellLines, LookupLine, NumberLine, SweepLine};
-use script_lines::requests::{CELLS_MOST, Request, is_passed_over};
+use script_lines::bursts::{BUFFER_MOST, Lists};
+use script_lines::requests::{CELLS_MOST, OUTPUT_MOST, Request, is_passed_over};
 use script_lines::{gather, requests};
 use std::alloc::{AllocError, Global};
 use std::fmt::Write;
@@ -51,40 +52,27 @@ impl Line {
     }
 }
 
-// The cells, and what is kept from line to line.
+// The cells, of which the first are lent to the calls.
 #[derive(Drop)]
-pub struct Session {
-    alloc: Global,
-    cells: Vec<u64>,
-    // How many cells are lent to the calls.
+struct Cells {
+    all: Vec<u64>,
     lent: usize,
-    // The answers that are not written out.
-    text: String,
-    // How many lines were ended.
-    lines: u64,
 }
 
-impl Session {
-    pub fn new(alloc: Global) -> Result<Self, AllocError> {
-        Ok(Session {
-            alloc,
-            cells: vec![in alloc; 0u64; CELLS_MOST]?,
-            lent: CELLS_MOST,
-            text: String::with_capacity(alloc, TEXT)?,
-            lines: 0,
-        })
-    }
-
-    // Does what a line asks for. The calls have the lent cells.
-    fn obey(&mut self, request: Request) -> Result<(), AllocError> {
-        let alloc = self.alloc;
-        let text = &mut self.text;
-        let lent = self.lent.min(self.cells.len());
-        let cells = &mut self.cells[..lent];
+impl Cells {
+    // Does what a line asks for, with the output that its call may be lent, and puts the answer behind the text.
+    fn obey(
+        &mut self,
+        request: Request<'_>,
+        out: &mut [u8],
+        text: &mut String,
+    ) -> Result<(), AllocError> {
+        let lent = self.lent.min(self.all.len());
+        let cells = &mut self.all[..lent];
         match request {
-            Request::Receive(call) => calls::receive(alloc, cells, &call, text),
-            Request::Burst(call) => calls::burst(alloc, cells, &call, text),
-            Request::Own(call) => calls::own(alloc, cells, &call, text),
+            Request::Receive(call) => calls::receive(cells, &call, out, text),
+            Request::Burst(call) => calls::burst(cells, &call, out, text),
+            Request::Own(call) => calls::own(cells, &call, out, text),
             Request::Sweep { time } => {
                 let swept = batman::batman_sweep(cells, time);
                 write!(text, "{}", SweepLine(swept))
@@ -100,7 +88,7 @@ impl Session {
             }
             Request::Check { version, packet } => {
                 let word = "check";
-                let number = batman::batman_packet_check(&packet, version);
+                let number = batman::batman_packet_check(packet, version);
                 write!(text, "{}", NumberLine { word, number })
             }
             Request::Make(table) => calls::make(cells, &table, text),
@@ -115,12 +103,43 @@ impl Session {
                 Ok(())
             }
             Request::Poke { index, value } => {
-                if let Some(cell) = self.cells.get_mut(index) {
+                if let Some(cell) = self.all.get_mut(index) {
                     *cell = value;
                 }
                 Ok(())
             }
         }
+    }
+}
+
+// What is kept from line to line. All that a line needs stands here, or on the stack: no line takes memory.
+#[derive(Drop)]
+pub struct Session {
+    cells: Cells,
+    // The octets and the lists of the present line's request.
+    octets: [u8; BUFFER_MOST],
+    lists: Lists,
+    // The output of its call.
+    output: [u8; OUTPUT_MOST],
+    // The answers that are not written out.
+    text: String,
+    // How many lines were ended.
+    lines: u64,
+}
+
+impl Session {
+    pub fn new(alloc: Global) -> Result<Self, AllocError> {
+        Ok(Session {
+            cells: Cells {
+                all: vec![in alloc; 0u64; CELLS_MOST]?,
+                lent: CELLS_MOST,
+            },
+            octets: [0; BUFFER_MOST],
+            lists: Lists::new(),
+            output: [0; OUTPUT_MOST],
+            text: String::with_capacity(alloc, TEXT)?,
+            lines: 0,
+        })
     }
 
     // A line that cannot be read.
@@ -135,8 +154,8 @@ impl Session {
         if is_passed_over(line) {
             return Ok(());
         }
-        match requests::read(self.alloc, line)? {
-            Some(request) => self.obey(request),
+        match requests::read(line, &mut self.octets, &mut self.lists) {
+            Some(request) => self.cells.obey(request, &mut self.output, &mut self.text),
             None => self.refuse(),
         }
     }

@@ -2,11 +2,8 @@
 use Rattle.std.specs.Prelude.{ℕ, ◌≡◌, List, Some}
 use Rattle.script_words.specs.Words.{word_at}
 use Rattle.script_numbers.specs.Numbers.{decimal}
+use Rattle.script_lines.specs.Limits.{most64}
 use Rattle.script_lines.specs.declared.tables.Table.{Table}
-
--- the largest number of 64 bits
-abbrev pub most64 : ℕ
-most64 = 18446744073709551615
 
 -- the first six words are the settings but for the tie, and how many interfaces are in use
 pub record ReadSettings (xs : List ℕ) (t : Table) : Type 0 where

@@ -4,11 +4,11 @@ ghost use Rattle.script_words.specs.Words.{from_word};
 
 use rules::limits::PRESENT_STAYS;
 use rules::{Interface, Settings};
-use script_numbers::{MOST_16, MOST_32, MOST_64, only_numbers, read_numbers};
+use script_numbers::{MOST_16, MOST_32, MOST_64, address, only_numbers, read_numbers, sequence};
 use script_words::is_finished;
 
 // The tie where it is left out.
-const TIE_DEFAULT: u64 = PRESENT_STAYS;
+pub const TIE_DEFAULT: u64 = PRESENT_STAYS;
 
 #[derive(Clone, Copy)]
 pub struct Table {
@@ -21,9 +21,9 @@ pub struct Table {
 fn read_row(text: &[u8]) -> Option<(Interface, &[u8])> {
     let ([own, broadcast, first], rest) = read_numbers(text, &[MOST_32, MOST_32, MOST_16])?;
     let row = Interface {
-        own: own as u32,
-        broadcast: broadcast as u32,
-        first: first as u16,
+        own: address(own),
+        broadcast: address(broadcast),
+        first: sequence(first),
     };
     Some((row, rest))
 }

@@ -1,9 +1,10 @@
 -- A turn of the loop over a word's digits. Assumes nothing.
-use Rattle.std.proofs.Common.{◌≡◌, ℕ, suc, ◌+◌, ◌≤◌, ◌<◌, ◌&&◌, leb, leb-true, Bool, true, false, cond, List, [], ◌∷◌, ◌++◌, All, length, drop, get_or, set, refl, sym, ap, ◌∙◌, arith, Option, Some, None, drop-cons, add-one, below_more, get_or-set_same, get_or-set_other}
+use Rattle.std.proofs.Common.{◌≡◌, ℕ, suc, ◌+◌, ◌≤◌, ◌<◌, ◌&&◌, leb, leb-true, Bool, true, false, cond, List, [], ◌∷◌, All, length, take, drop, replicate, get_or, set, refl, sym, ap, ◌∙◌, arith, Option, Some, None, inr, drop-cons, add-one, below_more, get_or-set_same, get_or-set_other}
 use Rattle.std.proofs.lemmas.Grind.{common_steps}
-use lib.Seq.{drop-length}
+use lib.Seq.{drop-length, length-take-le}
+use Rattle.std.proofs.lemmas.List.{get_or-take, get_or-replicate, length-replicate}
 use Rattle.script_words.specs.Words.{next_of, after_next, after_words, word_at}
-use Rattle.script_numbers.specs.Numbers.{digit0, digit9, more, is_next, with_digit, decimal_from, decimal}
+use Rattle.script_numbers.specs.Numbers.{digit0, digit9, more, is_next, with_digit, decimal_from, decimal, members_most, number_at, member_at, HasUnread, ReadNumbers, IsNoList, ReadList}
 
 module _ (most n d : ℕ) (ds : List ℕ) where
   goes_on : (k : ℕ) → Some k ≡ with_digit most n d → decimal_from most n (d ∷ ds) ≡ decimal_from most k ds
@@ -60,15 +61,6 @@ module _ (read : ℕ → Option ℕ) (values : List ℕ) (i v : ℕ) (h : (k : �
       (λ k b. h k b ∙ ap Some (sym (get_or-set_other values i k v 0 (λ q. omega arith))))
       (e ∙ ap Some (sym (get_or-set_same values i v 0 l)))
 
-  pub each_pushed : length values ≡ i → (k : ℕ) → k < i + 1 → read k ≡ Some (get_or (values ++ v ∷ []) k 0)
-  each_pushed l =
-      below_more _ _
-      (λ k b. h k b ∙ ap Some (grind (arith, common_steps)))
-      (e ∙ ap Some (grind (arith, common_steps)))
-
-pub length_one_more : (values : List ℕ) (i v : ℕ) → length values ≡ i → length (values ++ v ∷ []) ≡ i + 1
-length_one_more values i v e = grind (arith, common_steps)
-
 -- ---- a number that is read is at most its limit
 
 from_most : (most n : ℕ) (w : List ℕ) (v : ℕ) → n ≤ most → decimal_from most n w ≡ Some v → v ≤ most
@@ -91,3 +83,48 @@ at_most most (d ∷ ds) v e = from_most most 0 (d ∷ ds) v (omega arith) e
 -- the members that were read
 pub all_at_most : (members : List ℕ) (most : ℕ) (word : ℕ → List ℕ) → ((k : ℕ) → k < length members → decimal most (word k) ≡ Some (get_or members k 0)) → All (λ (member : ℕ). member ≤ most) members
 all_at_most members most word h k d l = let e : get_or members k d ≡ get_or members k 0 = grind (arith, common_steps) in omega (arith, e, at_most most (word k) (get_or members k 0) (h k l))
+
+-- the first numbers of the lent ones, once each limit had its word
+pub numbers_read : (xs limits lent rest : List ℕ) (n : ℕ) → n ≡ length limits → n ≤ length lent → rest ≡ after_words n xs → ((k : ℕ) → k < n → number_at xs limits k ≡ Some (get_or lent k 0)) → ReadNumbers xs limits (take (length limits) lent) rest
+numbers_read xs limits lent rest n e l b h =
+    let first = λ (k : ℕ) (c : k < length limits). get_or-take (length limits) lent k 0 c in
+    let read = λ (k : ℕ) (c : k < length limits). h k (omega arith) ∙ ap Some (sym (first k c)) in
+    record {
+      sized = length-take-le (length limits) lent (omega arith);
+      behind = b ∙ ap (λ (k : ℕ). after_words k xs) e;
+      read = read;
+      bounded = λ k c. at_most _ _ _ (read k c);
+    }
+
+-- ---- a list, whose members are read with one limit each
+
+module _ (xs ys : List ℕ) (most n : ℕ) (size : decimal members_most (next_of xs) ≡ Some n) (behind : ys ≡ after_next xs) where
+  abbrev pub limits : List ℕ
+  limits = replicate members_most most
+
+  pub few : n ≤ members_most
+  few = at_most _ _ _ size
+
+  pub sized : length (take n limits) ≡ n
+  sized = length-take-le n limits (omega (arith, few, length-replicate members_most most))
+
+  member : (k : ℕ) → k < n → number_at ys (take n limits) k ≡ member_at xs most k
+  member k h =
+      let e : get_or (take n limits) k 0 ≡ most = get_or-take n limits k 0 h ∙ get_or-replicate members_most k most 0 (omega (arith, few)) in
+      ap (λ (j : ℕ). decimal j (word_at k ys)) e ∙ ap (λ (zs : List ℕ). decimal most (word_at k zs)) behind
+
+  pub list_read : (lent rest : List ℕ) → n ≤ length lent → ReadNumbers ys (take n limits) (take (length (take n limits)) lent) rest → ReadList xs most (take n lent) rest
+  list_read lent rest l r =
+      let m : length (take n lent) ≡ n = length-take-le n lent l in
+      let read = λ (k : ℕ) (h : k < length (take n lent)). let b : k < n = omega (arith, m) in sym (member k b) ∙ r.read k (omega (arith, sized)) ∙ ap (λ (j : ℕ). Some (get_or (take j lent) k 0)) sized in
+      record {
+        size = size ∙ ap Some (sym m);
+        behind = r.behind ∙ ap (λ (j : ℕ). after_words j ys) (sized ∙ sym m) ∙ ap (after_words (length (take n lent))) behind;
+        read = read;
+        bounded = all_at_most _ _ _ read;
+      }
+
+  pub no_list : HasUnread ys (take n limits) → IsNoList xs most
+  no_list u =
+      let b : u.0 < n = omega (arith, u.1.0, sized) in
+      inr (n, (size, (u.0, (b, sym (member u.0 b) ∙ u.1.1))))

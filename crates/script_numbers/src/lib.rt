@@ -1,15 +1,17 @@
 // Decimal numbers: one word, the numbers with which a call's arguments begin, and lists of numbers.
 #![tactic(auto)]
 
-ghost use Rattle.std.specs.Prelude.{◌≡◌, ◌≤◌, All, IfOk, MatchOption};
+ghost use Rattle.std.specs.Prelude.{◌≡◌, ◌%◌, ◌≤◌, length, take, MatchOption, IsTrue, IsFalse};
 ghost use Rattle.script_words.specs.Words.{next_of, after_next};
 ghost use Rattle.script_numbers.specs.Numbers.{with_digit, decimal, most32, HasUnread, ReadNumbers, HasUnreadOrMore, OnlyNumbers, IsNoList, ReadList};
 
 use script_words::{is_finished, next_word};
-use std::alloc::{AllocError, Global};
 
-// The most members of a list.
-pub const MEMBERS_MOST: u64 = 40;
+// The most numbers that are read in a row: a list's members.
+pub const NUMBERS_MOST: usize = 40;
+
+// As the limit of the number that says how many members a list has.
+pub const MEMBERS_MOST: u64 = NUMBERS_MOST as u64;
 
 // The largest number of 64, 32, 16 and 8 bits.
 pub const MOST_64: u64 = u64::MAX;
@@ -59,7 +61,22 @@ fn next_number(text: &[u8], most: u64) -> Option<(u64, &[u8])>
     Some((decimal(word, most)?, rest))
 }
 
-// The decimal numbers with which a text begins, one for each limit, and what stands behind them.
+// The decimal numbers with which a text begins, one for each limit, are put into the first of the lent ones; and what stands
+// behind them.
+pub fn read_each<'a>(text: &'a [u8], limits: &[u64], lent: &mut [u64]) -> Option<&'a [u8]>
+    requires { length limits.now ≤ length lent.old }
+    ensures { MatchOption result (HasUnread text.now limits.now) (λ rest. ReadNumbers text.now limits.now (take (length limits.now) lent.new) rest.now) }
+{
+    let mut rest = text;
+    for (i, &most) in limits.iter().enumerate() {
+        let (number, after) = next_number(rest, most)?;
+        lent[i] = number;
+        rest = after;
+    }
+    Some(rest)
+}
+
+// The same for limits whose number is known, with the numbers by value.
 pub fn read_numbers<'a, const N: usize>(
     text: &'a [u8],
     limits: &[u64; N],
@@ -67,13 +84,20 @@ pub fn read_numbers<'a, const N: usize>(
     ensures { MatchOption result (HasUnread text.now limits.now) (λ r. ReadNumbers text.now limits.now r.0 r.1.now) }
 {
     let mut numbers = [0; N];
-    let mut rest = text;
-    for (i, &most) in limits.iter().enumerate() {
-        let (number, after) = next_number(rest, most)?;
-        numbers[i] = number;
-        rest = after;
-    }
+    let rest = read_each(text, limits, &mut numbers)?;
     Some((numbers, rest))
+}
+
+// The same where no word may follow: whether the numbers were all that the text has.
+pub fn only_each(text: &[u8], limits: &[u64], lent: &mut [u64]) -> bool
+    requires { length limits.now ≤ length lent.old }
+    ensures read { IsTrue result → OnlyNumbers text.now limits.now (take (length limits.now) lent.new) }
+    ensures refused { IsFalse result → HasUnreadOrMore text.now limits.now }
+{
+    match read_each(text, limits, lent) {
+        Some(rest) => is_finished(rest),
+        None => false,
+    }
 }
 
 // The numbers of a text that has numbers alone: no word may follow.
@@ -88,47 +112,52 @@ pub fn only_numbers<const N: usize>(text: &[u8], limits: &[u64; N]) -> Option<[u
     is_finished(rest).then_some(numbers)
 }
 
-// A list: how many members it has, and the members, each of at most `most`; and what stands behind it.
-pub fn read_list<'a>(
-    alloc: Global,
+// A list: how many members it has, and the members, each of at most `most`, which are put into the lent ones; and what
+// stands behind it.
+pub fn read_list<'a, 'o>(
     text: &'a [u8],
     most: u64,
-) -> Result<Option<(Vec<u64>, &'a [u8])>, AllocError>
-    ensures { IfOk result (λ r. MatchOption r (IsNoList text.now most) (λ l. ReadList text.now most l.0.items l.1.now)) }
+    lent: &'o mut [u64; NUMBERS_MOST],
+) -> Option<(&'o [u64], &'a [u8])>
+    ensures { MatchOption result (IsNoList text.now most) (λ l. ReadList text.now most l.0.now l.1.now) }
 {
-    let Some((count, behind)) = next_number(text, MEMBERS_MOST) else {
-        return Ok(None);
-    };
-    let mut members = Vec::new(alloc);
-    let mut rest = behind;
-    for _ in 0..count {
-        let Some((member, after)) = next_number(rest, most) else {
-            return Ok(None);
-        };
-        members.push(member)?;
-        rest = after;
-    }
-    Ok(Some((members, rest)))
+    let (count, behind) = next_number(text, MEMBERS_MOST)?;
+    let count = count as usize;
+    let limits = [most; NUMBERS_MOST];
+    let rest = read_each(behind, &limits[..count], lent)?;
+    Some((&lent[..count], rest))
 }
 
-// Members in the type of addresses.
-fn narrowed(alloc: Global, members: &[u64]) -> Result<Vec<u32>, AllocError>
-    requires { All (λ member. member ≤ most32) members.now }
-    ensures { IfOk result (λ addresses. addresses.items ≡ members.now) }
+// Numbers in their own types; what has no room there is cut off. Each was read with its type's limit, so nothing is.
+pub fn address(value: u64) -> u32
+    ensures { result ≡ value % 4294967296 }
 {
-    members.iter().map(|&member| member as u32).collect(alloc)
+    (value % (MOST_32 + 1)) as u32
+}
+
+pub fn sequence(value: u64) -> u16
+    ensures { result ≡ value % 65536 }
+{
+    (value % (MOST_16 + 1)) as u16
+}
+
+pub fn octet(value: u64) -> u8
+    ensures { result ≡ value % 256 }
+{
+    (value % (MOST_8 + 1)) as u8
 }
 
 // A list of addresses.
-pub fn read_addresses<'a>(
-    alloc: Global,
+pub fn read_addresses<'a, 'o>(
     text: &'a [u8],
-) -> Result<Option<(Vec<u32>, &'a [u8])>, AllocError>
-    ensures { IfOk result (λ r. MatchOption r (IsNoList text.now most32) (λ l. ReadList text.now most32 l.0.items l.1.now)) }
+    lent: &'o mut [u32; NUMBERS_MOST],
+) -> Option<(&'o [u32], &'a [u8])>
+    ensures { MatchOption result (IsNoList text.now most32) (λ l. ReadList text.now most32 l.0.now l.1.now) }
 {
-    let Some((members, rest)) = read_list(alloc, text, MOST_32)? else {
-        return Ok(None);
-    };
-    let addresses = narrowed(alloc, &members)?;
-    Ok(Some((addresses, rest)))
+    let mut wide = [0; NUMBERS_MOST];
+    let (members, rest) = read_list(text, MOST_32, &mut wide)?;
+    for (i, &member) in members.iter().enumerate() {
+        lent[i] = member as u32;
+    }
+    Some((&lent[..members.len()], rest))
 }

@@ -1,12 +1,11 @@
 // Octets in lower-case hex.
 #![tactic(auto)]
 
-ghost use Rattle.std.specs.Prelude.{◌≡◌, ◌≤◌, ◌<◌, IfOk, IfSome, MatchOption, vec_len};
-ghost use Rattle.script_words.specs.Words.{next_of};
+ghost use Rattle.std.specs.Prelude.{◌≡◌, ◌/◌, ◌≤◌, ◌<◌, IfSome, MatchOption, length};
+ghost use Rattle.script_words.specs.Words.{next_of, after_next};
 ghost use Rattle.script_octets.specs.Octets as O;
 
 use script_words::{is_finished, next_word};
-use std::alloc::{AllocError, Global};
 
 const BASE: u8 = 16;
 
@@ -32,57 +31,44 @@ fn pair(high: u8, low: u8) -> Option<u8>
     Some(digit_of(high)? * BASE + digit_of(low)?)
 }
 
-// The octets that a word of an even number of hex digits says.
-fn pairs(alloc: Global, word: &[u8]) -> Result<Option<Vec<u8>>, AllocError>
-    ensures { IfOk result (λ r. MatchOption r (O.HasBadPair word.now) (λ octets. O.Pairs word.now octets.items)) }
+// The octets that a word of an even number of hex digits says, which are put into the lent ones.
+fn pairs<'o>(word: &[u8], lent: &'o mut [u8]) -> Option<&'o [u8]>
+    requires { length word.now / 2 ≤ length lent.old }
+    ensures { MatchOption result (O.HasBadPair word.now) (λ octets. O.Pairs word.now octets.now) }
 {
-    let mut octets = Vec::new(alloc);
-    for digits in word.chunks_exact(2) {
-        let Some(octet) = pair(digits[0], digits[1]) else {
-            return Ok(None);
-        };
-        octets.push(octet)?;
+    let n = word.len() / 2;
+    for i in 0..n {
+        lent[i] = pair(word[2 * i], word[2 * i + 1])?;
     }
-    Ok(Some(octets))
+    Some(&lent[..n])
 }
 
-// The octets that a word says, at most `most`: `-` for none.
-fn read_octets(alloc: Global, word: &[u8], most: usize) -> Result<Option<Vec<u8>>, AllocError>
-    ensures { IfOk result (λ r. MatchOption r (O.Unsayable word.now most) (λ octets. O.Says word.now octets.items × (vec_len octets ≤ most))) }
+// The octets that a word says, at most as many as are lent: `-` for none.
+fn read_octets<'o>(word: &[u8], lent: &'o mut [u8]) -> Option<&'o [u8]>
+    ensures { MatchOption result (O.Unsayable word.now (length lent.old)) (λ octets. O.Says word.now octets.now × (length octets.now ≤ length lent.old)) }
 {
     if word == NO_OCTETS {
-        return Ok(Some(Vec::new(alloc)));
+        return Some(&[]);
     }
-    if word.is_empty() || word.len() % 2 != 0 || word.len() / 2 > most {
-        return Ok(None);
+    if word.is_empty() || word.len() % 2 != 0 || word.len() / 2 > lent.len() {
+        return None;
     }
-    pairs(alloc, word)
+    pairs(word, lent)
 }
 
-// The octets that the next word of a text says, at most `most`, and what stands behind it.
-pub fn next_octets<'a>(
-    alloc: Global,
-    text: &'a [u8],
-    most: usize,
-) -> Result<Option<(Vec<u8>, &'a [u8])>, AllocError>
-    ensures { IfOk result (λ r. MatchOption r (O.Unsayable (next_of text.now) most) (λ o. O.ReadNext text.now most o.0.items o.1.now)) }
+// The octets that the next word of a text says, at most as many as are lent, and what stands behind the word, whatever it says.
+pub fn next_octets<'a, 'o>(text: &'a [u8], lent: &'o mut [u8]) -> (Option<&'o [u8]>, &'a [u8])
+    ensures behind { result.1.now ≡ after_next text.now }
+    ensures octets { MatchOption result.0 (O.Unsayable (next_of text.now) (length lent.old)) (λ octets. O.ReadNext text.now (length lent.old) octets.now result.1.now) }
 {
     let (word, rest) = next_word(text);
-    let Some(octets) = read_octets(alloc, word, most)? else {
-        return Ok(None);
-    };
-    Ok(Some((octets, rest)))
+    (read_octets(word, lent), rest)
 }
 
-// The octets that the last word of a text says, at most `most`.
-pub fn last_octets(alloc: Global, text: &[u8], most: usize) -> Result<Option<Vec<u8>>, AllocError>
-    ensures { IfOk result (λ r. MatchOption r (O.UnsayableOrMore text.now most) (λ octets. O.LastOctets text.now most octets.items)) }
+// The octets that the last word of a text says, at most as many as are lent.
+pub fn last_octets<'o>(text: &[u8], lent: &'o mut [u8]) -> Option<&'o [u8]>
+    ensures { MatchOption result (O.UnsayableOrMore text.now (length lent.old)) (λ octets. O.LastOctets text.now (length lent.old) octets.now) }
 {
-    let Some((octets, rest)) = next_octets(alloc, text, most)? else {
-        return Ok(None);
-    };
-    if !is_finished(rest) {
-        return Ok(None);
-    }
-    Ok(Some(octets))
+    let (octets, rest) = next_octets(text, lent);
+    if is_finished(rest) { octets } else { None }
 }

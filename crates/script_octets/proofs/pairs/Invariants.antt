@@ -1,15 +1,11 @@
-use Rattle.std.proofs.Common.{◌≡◌, ◌*◌, ◌≤◌, length, drop}
-use Rattle.std.specs.Slice.Iter.{chunks_exact_rest, chunks_exact_size}
-use Rattle.script_octets.specs.Octets.{Are}
+-- `pairs`: after i turns the first i lent octets are those that the word says.
+use Rattle.std.proofs.Common.{◌≡◌, ℕ, ◌<◌, length, get_or, Some}
+use Rattle.script_octets.specs.Octets.{octet_at}
 use Rattle.script_octets.proofs.pairs.Given as goal
 
-abbrev pub invariant-loop-digits : goal.invariant-loop-digits
-invariant-loop-digits l =
+abbrev pub invariant-loop-i : goal.invariant-loop-i
+invariant-loop-i l =
     record {
-      can : (goal.iterator-loop-digits).can_next l.digits-iterator;
-      finite : (goal.iterator-loop-digits).is_finite l.digits-iterator;
-      size : chunks_exact_size l.digits-iterator ≡ 2;
-      rest : chunks_exact_rest l.digits-iterator ≡ drop (2 * length l.octets.items) l.fn.word;
-      room : 2 * length l.octets.items ≤ length l.fn.word;
-      read : Are l.fn.word l.octets.items;
+      same : length l.lent ≡ length l.fn.lent;
+      read : (k : ℕ) → k < l.i → octet_at l.fn.word k ≡ Some (get_or l.lent k 0);
     }
