@@ -4,6 +4,7 @@ use script_answers::{BestLine, CellLines, LookupLine, NumberLine, SweepLine};
 use script_lines::bursts::{BUFFER_MOST, Lists};
 use script_lines::requests::{CELLS_MOST, OUTPUT_MOST, Request, is_passed_over};
 use script_lines::{gather, requests};
+use script_numbers::NUMBERS_MOST;
 use std::alloc::{AllocError, Global};
 use std::fmt::Write;
 use std::io;
@@ -135,7 +136,11 @@ impl Session {
                 lent: CELLS_MOST,
             },
             octets: [0; BUFFER_MOST],
-            lists: Lists::new(),
+            lists: Lists {
+                lengths: [0; NUMBERS_MOST],
+                senders: [0; NUMBERS_MOST],
+                interfaces: [0; NUMBERS_MOST],
+            },
             output: [0; OUTPUT_MOST],
             text: String::with_capacity(alloc, TEXT)?,
             lines: 0,
@@ -144,9 +149,7 @@ impl Session {
 
     // A line that cannot be read.
     fn refuse(&mut self) -> Result<(), AllocError> {
-        let word = "error";
-        let number = self.lines;
-        write!(self.text, "{}", NumberLine { word, number })
+        writeln!(self.text, "error {}", self.lines)
     }
 
     // Does what a line asks for.

@@ -23,16 +23,6 @@ pub struct Lists {
     pub interfaces: [u64; NUMBERS_MOST],
 }
 
-impl Lists {
-    pub fn new() -> Self {
-        Lists {
-            lengths: [0; NUMBERS_MOST],
-            senders: [0; NUMBERS_MOST],
-            interfaces: [0; NUMBERS_MOST],
-        }
-    }
-}
-
 // The numbers with which a burst begins: its time, and how many octets of output and rows are lent to it.
 fn numbers(text: &[u8]) -> Option<([u64; 3], &[u8])>
     ensures { MatchOption result (HasUnread text.now (most64 ∷ output_most ∷ burst_rows_most ∷ [])) (λ r. ReadNumbers text.now (most64 ∷ output_most ∷ burst_rows_most ∷ []) r.0 r.1.now) }
