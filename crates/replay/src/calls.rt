@@ -10,8 +10,8 @@ use std::fmt::Write;
 // Each octet of an output before a call.
 const FILLER: u8 = 238;
 
-// The part of the output that is lent to a call.
-fn lent(out: &mut [u8], room: usize) -> &mut [u8] {
+// The part of the output that is lent to a call, filled as it is before one.
+fn filled(out: &mut [u8], room: usize) -> &mut [u8] {
     let room = room.min(out.len());
     let part = &mut out[..room];
     part.fill(FILLER);
@@ -35,7 +35,7 @@ pub fn receive(
     out: &mut [u8],
     text: &mut String,
 ) -> Result<(), AllocError> {
-    let out = lent(out, call.output);
+    let out = filled(out, call.output);
     let received = batman::batman_receive(
         cells,
         call.packet,
@@ -58,7 +58,7 @@ pub fn burst(
     out: &mut [u8],
     text: &mut String,
 ) -> Result<(), AllocError> {
-    let out = lent(out, call.output);
+    let out = filled(out, call.output);
     let answers = call_burst::burst(
         cells,
         call.octets,
@@ -88,7 +88,7 @@ pub fn own(
     out: &mut [u8],
     text: &mut String,
 ) -> Result<(), AllocError> {
-    let out = lent(out, call.output);
+    let out = filled(out, call.output);
     let written = batman::batman_own_packet(
         cells,
         call.interface,
